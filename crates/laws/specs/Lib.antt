@@ -1,0 +1,7 @@
+pub mod Bit
+pub mod Bools
+pub mod Field
+pub mod FieldLaws
+pub mod Least
+pub mod Lists
+pub mod Sum
