@@ -2,6 +2,18 @@
 use mathlib.Core.Path.{_≡_, refl}
 use mathlib.Core.Bool.{Bool, true, false, cond, not, _&&_, _||_}
 use mathlib.Core.Logic.{_⊎_, inl, inr}
+use Prim.Native.Nat.{ℕ, _≤_}
+use native.Mathlib.Omega.{arith}
+
+-- 1 where a test fails, else 0
+unfoldable pub fault : Bool → ℕ
+fault true = 0
+fault false = 1
+
+pub fault-le : (b : Bool) → fault b ≤ 1
+unfolding fault
+fault-le true = omega arith
+fault-le false = omega arith
 
 -- a test passes or fails
 pub cases : (b : Bool) → (b ≡ true) ⊎ (b ≡ false)

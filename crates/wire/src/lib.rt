@@ -1,5 +1,5 @@
-// Big-endian fields of 1, 2, 4, 6 and 8 bytes, each read where it stands. Wider fields are put together of narrower ones, which
-// compiles to one load and one byte swap. It knows nothing of messages.
+// Big-endian fields of 1, 2, 4, 6 and 8 bytes, each read where it stands. Four bytes added up in one sum, and two such sums,
+// compile to one load and one byte swap. It knows nothing of messages.
 ghost use mathlib.Core.Path.{_≡_};
 ghost use Prim.Native.Nat.{_+_, _≤_, _<_};
 ghost use lib.ListN.{length};
@@ -22,7 +22,7 @@ fn four(s: &[u8], at: usize) -> u64
     requires { ⌜ at + 4 ≤ length (now s) ⌝ }
     ensures { λ r. ⌜ IsField (now (s .entry)) at 4 r ⌝ }
 {
-    two(s, at) * 65536 + two(s, at + 2)
+    wide(s[at]) * 16777216 + wide(s[at + 1]) * 65536 + wide(s[at + 2]) * 256 + wide(s[at + 3])
 }
 
 pub fn u8_at(s: &[u8], at: usize) -> u8

@@ -1,0 +1,72 @@
+-- What each reader of a field ensures: what it holds, its weight, and the bound that adding the weights up asks.
+-- Assumes nothing.
+use Prim.Native.Nat.{ℕ, _+_, _*_, _≤_}
+use mathlib.Core.Path.{_≡_}
+use mathlib.Core.List.{List}
+use Rattle.laws.specs.Bools.{fault}
+use Rattle.laws.specs.Field.{field}
+use Rattle.text.specs.Text.{text}
+use Rattle.messages.specs.Numbers.{sideByte}
+use Rattle.wellformed.specs.WellFormed.{goodTime, goodShares, goodPrice, goodSide, goodPrintable}
+use Rattle.wellformed.specs.Weight.{sideHeld, priceHeld}
+use Rattle.checked.specs.declared.Headed.{Headed}
+use Rattle.checked.specs.declared.Shares.{Shares}
+use Rattle.checked.specs.declared.Priced.{Priced}
+use Rattle.checked.specs.declared.Prices.{Prices}
+use Rattle.checked.specs.declared.Stocked.{Stocked}
+use Rattle.checked.specs.declared.Sided.{Sided}
+use Rattle.checked.specs.declared.Printable.{Printable}
+use Rattle.checked.specs.declared.Text8.{Text8}
+use Rattle.checked.specs.declared.Text4.{Text4}
+
+pub record IsHeaded (s : List ℕ) (r : Headed) : Type 0 where
+  pub locate : r .head .«stock_locate» .0 ≡ field s 1 2
+  pub tracking : r .head .«tracking_number» ≡ field s 3 2
+  pub time : r .head .timestamp ≡ field s 5 6
+  pub weight : r .weight ≡ 512 * fault (goodTime (field s 5 6))
+  pub small : r .weight ≤ 512
+
+pub record IsShares (s : List ℕ) (at : ℕ) (r : Shares) : Type 0 where
+  pub shares : r .shares ≡ field s at 4
+  pub weight : r .weight ≡ fault (goodShares (field s at 4))
+  pub small : r .weight ≤ 1
+
+pub record IsPriced (s : List ℕ) (at : ℕ) (r : Priced) : Type 0 where
+  pub price : r .price .0 ≡ priceHeld (field s at 4)
+  pub weight : r .weight ≡ 2 * fault (goodPrice (field s at 4))
+  pub small : r .weight ≤ 2
+
+pub record IsSided (s : List ℕ) (at : ℕ) (r : Sided) : Type 0 where
+  pub side : sideByte (r .side) ≡ sideHeld (field s at 1)
+  pub weight : r .weight ≡ 16 * fault (goodSide (field s at 1))
+  pub small : r .weight ≤ 16
+
+pub record IsPrintable (s : List ℕ) (at : ℕ) (r : Printable) : Type 0 where
+  pub printable : r .printable ≡ field s at 1
+  pub weight : r .weight ≡ 16 * fault (goodPrintable (field s at 1))
+  pub small : r .weight ≤ 16
+
+pub record IsText8 (s : List ℕ) (at : ℕ) (r : Text8) : Type 0 where
+  pub held : r .text ≡ field s at 8
+  pub weight : r .weight ≡ 16 * fault (text 8 (field s at 8))
+  pub small : r .weight ≤ 16
+
+pub record IsText4 (s : List ℕ) (at : ℕ) (r : Text4) : Type 0 where
+  pub held : r .text ≡ field s at 4
+  pub weight : r .weight ≡ 16 * fault (text 4 (field s at 4))
+  pub small : r .weight ≤ 16
+
+pub record IsStocked (s : List ℕ) (r : Stocked) : Type 0 where
+  pub locate : r .head .«stock_locate» .0 ≡ field s 1 2
+  pub tracking : r .head .«tracking_number» ≡ field s 3 2
+  pub time : r .head .timestamp ≡ field s 5 6
+  pub stock : r .stock ≡ field s 11 8
+  pub weight : r .weight ≡ 512 * fault (goodTime (field s 5 6)) + 16 * fault (text 8 (field s 11 8))
+  pub small : r .weight ≤ 528
+
+pub record IsPrices (s : List ℕ) (at : ℕ) (r : Prices) : Type 0 where
+  pub first : r .first .0 ≡ priceHeld (field s at 4)
+  pub second : r .second .0 ≡ priceHeld (field s (at + 4) 4)
+  pub third : r .third .0 ≡ priceHeld (field s (at + 8) 4)
+  pub weight : r .weight ≡ 2 * fault (goodPrice (field s at 4)) + 2 * fault (goodPrice (field s (at + 4) 4)) + 2 * fault (goodPrice (field s (at + 8) 4))
+  pub small : r .weight ≤ 6

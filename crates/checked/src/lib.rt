@@ -1,0 +1,226 @@
+// Fields read and weighed: each call gives what stands at a place and the weight of what is wrong with it. It knows the kinds of
+// fields, and no message.
+ghost use mathlib.Core.Path.{_≡_};
+ghost use Prim.Native.Nat.{_+_, _≤_, _*_};
+ghost use lib.ListN.{length};
+ghost use Rattle.laws.specs.Field.{field};
+ghost use Rattle.checked.specs.Checked.{IsHeaded, IsPriced, IsPrices, IsPrintable, IsShares, IsSided, IsStocked, IsText4, IsText8};
+use kinds::Admission;
+use kinds::Locate;
+use kinds::Price;
+use kinds::Side;
+use messages::Head;
+
+pub struct Headed {
+    pub head: Head,
+    pub weight: u64,
+}
+
+pub struct Stocked {
+    pub head: Head,
+    pub stock: u64,
+    pub weight: u64,
+}
+
+pub struct Shares {
+    pub shares: u32,
+    pub weight: u64,
+}
+
+pub struct Priced {
+    pub price: Price,
+    pub weight: u64,
+}
+
+pub struct Prices {
+    pub first: Price,
+    pub second: Price,
+    pub third: Price,
+    pub weight: u64,
+}
+
+pub struct Sided {
+    pub side: Side,
+    pub weight: u64,
+}
+
+pub struct Printable {
+    pub printable: u8,
+    pub weight: u64,
+}
+
+pub struct Text8 {
+    pub text: u64,
+    pub weight: u64,
+}
+
+pub struct Text4 {
+    pub text: u32,
+    pub weight: u64,
+}
+
+// The fields that every message begins with.
+pub fn head_at(s: &[u8]) -> Headed
+    requires { ⌜ 11 ≤ length (now s) ⌝ }
+    ensures { λ r. ⌜ IsHeaded (now (s .entry)) r ⌝ }
+{
+    let time = wire::u48_at(s, 5);
+    let head = Head {
+        stock_locate: Locate(wire::u16_at(s, 1)),
+        tracking_number: wire::u16_at(s, 3),
+        timestamp: time,
+    };
+    if time < 86400000000000 {
+        Headed {
+            head: head,
+            weight: 0,
+        }
+    } else {
+        Headed {
+            head: head,
+            weight: 512,
+        }
+    }
+}
+
+// Shares, of which there must be at least one.
+pub fn shares_at(s: &[u8], at: usize) -> Shares
+    requires { ⌜ at + 4 ≤ length (now s) ⌝ }
+    ensures { λ r. ⌜ IsShares (now (s .entry)) at r ⌝ }
+{
+    let n = wire::u32_at(s, at);
+    if n == 0 {
+        Shares {
+            shares: n,
+            weight: 1,
+        }
+    } else {
+        Shares {
+            shares: n,
+            weight: 0,
+        }
+    }
+}
+
+// A Price (4), which stands at 0 while it is refused.
+pub fn price_at(s: &[u8], at: usize) -> Priced
+    requires { ⌜ at + 4 ≤ length (now s) ⌝ }
+    ensures { λ r. ⌜ IsPriced (now (s .entry)) at r ⌝ }
+{
+    let a = Price::admit(wire::u32_at(s, at));
+    let Admission::Admitted(p) = a else {
+        return Priced {
+            price: Price(0),
+            weight: 2,
+        };
+    };
+    Priced {
+        price: p,
+        weight: 0,
+    }
+}
+
+// A side, which stands at Sell while it is refused.
+pub fn side_at(s: &[u8], at: usize) -> Sided
+    requires { ⌜ at + 1 ≤ length (now s) ⌝ }
+    ensures { λ r. ⌜ IsSided (now (s .entry)) at r ⌝ }
+{
+    let b = wire::u8_at(s, at);
+    if b == 66 {
+        return Sided {
+            side: Side::Buy,
+            weight: 0,
+        };
+    }
+    if b == 83 {
+        return Sided {
+            side: Side::Sell,
+            weight: 0,
+        };
+    }
+    Sided {
+        side: Side::Sell,
+        weight: 16,
+    }
+}
+
+pub fn printable_at(s: &[u8], at: usize) -> Printable
+    requires { ⌜ at + 1 ≤ length (now s) ⌝ }
+    ensures { λ r. ⌜ IsPrintable (now (s .entry)) at r ⌝ }
+{
+    let b = wire::u8_at(s, at);
+    if b == 89 {
+        return Printable {
+            printable: b,
+            weight: 0,
+        };
+    }
+    if b == 78 {
+        return Printable {
+            printable: b,
+            weight: 0,
+        };
+    }
+    Printable {
+        printable: b,
+        weight: 16,
+    }
+}
+
+// A Stock.
+pub fn text8_at(s: &[u8], at: usize) -> Text8
+    requires { ⌜ at + 8 ≤ length (now s) ⌝ }
+    ensures { λ r. ⌜ IsText8 (now (s .entry)) at r ⌝ }
+{
+    let v = wire::u64_at(s, at);
+    Text8 {
+        text: v,
+        weight: 16 * text::text8(v),
+    }
+}
+
+// An MPID or an Attribution.
+pub fn text4_at(s: &[u8], at: usize) -> Text4
+    requires { ⌜ at + 4 ≤ length (now s) ⌝ }
+    ensures { λ r. ⌜ IsText4 (now (s .entry)) at r ⌝ }
+{
+    let v = wire::u32_at(s, at);
+    Text4 {
+        text: v,
+        weight: 16 * text::text4(v),
+    }
+}
+
+// What the messages about one stock begin with.
+pub fn stock_head_at(s: &[u8]) -> Stocked
+    requires { ⌜ 19 ≤ length (now s) ⌝ }
+    ensures { λ r. ⌜ IsStocked (now (s .entry)) r ⌝ }
+{
+    let h = head_at(s);
+    let head = h.head;
+    let stock = text8_at(s, 11);
+    Stocked {
+        head,
+        stock: stock.text,
+        weight: h.weight + stock.weight,
+    }
+}
+
+// Three prices side by side.
+pub fn prices_at(s: &[u8], at: usize) -> Prices
+    requires { ⌜ at + 12 ≤ length (now s) ⌝ }
+    ensures { λ r. ⌜ IsPrices (now (s .entry)) at r ⌝ }
+{
+    let a = price_at(s, at);
+    let first = a.price;
+    let b = price_at(s, at + 4);
+    let second = b.price;
+    let c = price_at(s, at + 8);
+    let third = c.price;
+    Prices {
+        first,
+        second,
+        third,
+        weight: a.weight + b.weight + c.weight,
+    }
+}

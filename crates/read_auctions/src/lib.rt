@@ -1,0 +1,95 @@
+// The messages about auctions and retail interest: I, N, O. Each is read at fixed offsets and weighed,
+// and proved against its row of the table of fields. Plain fields are read first, which keeps what is weighed in the prover's reach.
+ghost use mathlib.Core.Path.{_≡_};
+ghost use lib.ListN.{length};
+ghost use Rattle.parsed.specs.Parsed.{IsParsed};
+use messages::DirectListing;
+use messages::Message;
+use messages::NetOrderImbalance;
+use messages::RetailInterest;
+use parsed::Parsed;
+
+// I: Net Order Imbalance Indicator, 1.6.
+pub fn net_order_imbalance(s: &[u8]) -> Parsed
+    requires { ⌜ length (now s) ≡ 50 ⌝ }
+    ensures { λ r. ⌜ IsParsed 73 (now (s .entry)) r ⌝ }
+{
+    let h = checked::head_at(s);
+    let head = h.head;
+    let stock = checked::text8_at(s, 28);
+    let three = checked::prices_at(s, 36);
+    let far_price = three.first;
+    let near_price = three.second;
+    let current_reference_price = three.third;
+    let paired_shares = wire::u64_at(s, 11);
+    let imbalance_shares = wire::u64_at(s, 19);
+    let imbalance_direction = wire::u8_at(s, 27);
+    let cross_type = wire::u8_at(s, 48);
+    let price_variation_indicator = wire::u8_at(s, 49);
+    Parsed {
+        weight: h.weight + stock.weight + three.weight,
+        message: Message::NetOrderImbalance(NetOrderImbalance {
+            head,
+            paired_shares,
+            imbalance_shares,
+            imbalance_direction,
+            stock: stock.text,
+            far_price,
+            near_price,
+            current_reference_price,
+            cross_type,
+            price_variation_indicator,
+        }),
+    }
+}
+
+// N: Retail Interest, 1.7.
+pub fn retail_interest(s: &[u8]) -> Parsed
+    requires { ⌜ length (now s) ≡ 20 ⌝ }
+    ensures { λ r. ⌜ IsParsed 78 (now (s .entry)) r ⌝ }
+{
+    let interest_flag = wire::u8_at(s, 19);
+    let h = checked::stock_head_at(s);
+    let head = h.head;
+    Parsed {
+        weight: h.weight,
+        message: Message::RetailInterest(RetailInterest {
+            head,
+            stock: h.stock,
+            interest_flag,
+        }),
+    }
+}
+
+// O: Direct Listing with Capital Raise, 1.8.
+pub fn direct_listing(s: &[u8]) -> Parsed
+    requires { ⌜ length (now s) ≡ 48 ⌝ }
+    ensures { λ r. ⌜ IsParsed 79 (now (s .entry)) r ⌝ }
+{
+    let open_eligibility_status = wire::u8_at(s, 19);
+    let near_execution_time = wire::u64_at(s, 32);
+    let h = checked::stock_head_at(s);
+    let head = h.head;
+    let three = checked::prices_at(s, 20);
+    let minimum_allowable_price = three.first;
+    let maximum_allowable_price = three.second;
+    let near_execution_price = three.third;
+    let lower = checked::price_at(s, 40);
+    let lower_price_range_collar = lower.price;
+    let upper = checked::price_at(s, 44);
+    let upper_price_range_collar = upper.price;
+    Parsed {
+        weight: h.weight + three.weight + lower.weight + upper.weight,
+        message: Message::DirectListing(DirectListing {
+            head,
+            stock: h.stock,
+            open_eligibility_status,
+            minimum_allowable_price,
+            maximum_allowable_price,
+            near_execution_price,
+            near_execution_time,
+            lower_price_range_collar,
+            upper_price_range_collar,
+        }),
+    }
+}

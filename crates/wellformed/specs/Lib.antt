@@ -1,0 +1,4 @@
+pub mod Faults
+pub mod Weight
+pub mod WeightLaws
+pub mod WellFormed
