@@ -7,7 +7,7 @@ use Rattle.ladlemoss.proofs.ladlemoss_read.Tie as tie
 
 returns : tie.Need-returns
 returns c =
-    let e = c .before .read .ensures in
+    let e = c .before .before .read .ensures in
     (c .write .ensures .0 ∙ ap number e, c .write .ensures .1 ∙ ap row e)
 
 pub ladlemoss-read-spec : {M : Type 1} → statement M
