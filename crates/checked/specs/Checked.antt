@@ -12,8 +12,9 @@ use Rattle.wellformed.specs.Weight.{sideHeld, priceHeld}
 use Rattle.checked.specs.declared.Headed.{Headed}
 use Rattle.checked.specs.declared.Shares.{Shares}
 use Rattle.checked.specs.declared.Priced.{Priced}
-use Rattle.checked.specs.declared.Prices.{Prices}
-use Rattle.checked.specs.declared.Stocked.{Stocked}
+use Rattle.checked.specs.declared.TwoPrices.{TwoPrices}
+use Rattle.checked.specs.declared.ThreePrices.{ThreePrices}
+use Rattle.checked.specs.declared.Lot.{Lot}
 use Rattle.checked.specs.declared.Sided.{Sided}
 use Rattle.checked.specs.declared.Printable.{Printable}
 use Rattle.checked.specs.declared.Text8.{Text8}
@@ -56,15 +57,19 @@ pub record IsText4 (s : List ℕ) (at : ℕ) (r : Text4) : Type 0 where
   pub weight : r .weight ≡ 16 * fault (text 4 (field s at 4))
   pub small : r .weight ≤ 16
 
-pub record IsStocked (s : List ℕ) (r : Stocked) : Type 0 where
-  pub locate : r .head .«stock_locate» .0 ≡ field s 1 2
-  pub tracking : r .head .«tracking_number» ≡ field s 3 2
-  pub time : r .head .timestamp ≡ field s 5 6
-  pub stock : r .stock ≡ field s 11 8
-  pub weight : r .weight ≡ 512 * fault (goodTime (field s 5 6)) + 16 * fault (text 8 (field s 11 8))
-  pub small : r .weight ≤ 528
+pub record IsLot (s : List ℕ) (at : ℕ) (r : Lot) : Type 0 where
+  pub side : sideByte (r .side) ≡ sideHeld (field s at 1)
+  pub shares : r .shares ≡ field s (at + 1) 4
+  pub weight : r .weight ≡ 16 * fault (goodSide (field s at 1)) + fault (goodShares (field s (at + 1) 4))
+  pub small : r .weight ≤ 17
 
-pub record IsPrices (s : List ℕ) (at : ℕ) (r : Prices) : Type 0 where
+pub record AreTwoPrices (s : List ℕ) (at : ℕ) (r : TwoPrices) : Type 0 where
+  pub first : r .first .0 ≡ priceHeld (field s at 4)
+  pub second : r .second .0 ≡ priceHeld (field s (at + 4) 4)
+  pub weight : r .weight ≡ 2 * fault (goodPrice (field s at 4)) + 2 * fault (goodPrice (field s (at + 4) 4))
+  pub small : r .weight ≤ 4
+
+pub record AreThreePrices (s : List ℕ) (at : ℕ) (r : ThreePrices) : Type 0 where
   pub first : r .first .0 ≡ priceHeld (field s at 4)
   pub second : r .second .0 ≡ priceHeld (field s (at + 4) 4)
   pub third : r .third .0 ≡ priceHeld (field s (at + 8) 4)

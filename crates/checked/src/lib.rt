@@ -4,7 +4,7 @@ ghost use mathlib.Core.Path.{_≡_};
 ghost use Prim.Native.Nat.{_+_, _≤_, _*_};
 ghost use lib.ListN.{length};
 ghost use Rattle.laws.specs.Field.{field};
-ghost use Rattle.checked.specs.Checked.{IsHeaded, IsPriced, IsPrices, IsPrintable, IsShares, IsSided, IsStocked, IsText4, IsText8};
+ghost use Rattle.checked.specs.Checked.{AreThreePrices, AreTwoPrices, IsHeaded, IsLot, IsPriced, IsPrintable, IsShares, IsSided, IsText4, IsText8};
 use kinds::Admission;
 use kinds::Locate;
 use kinds::Price;
@@ -13,12 +13,6 @@ use messages::Head;
 
 pub struct Headed {
     pub head: Head,
-    pub weight: u64,
-}
-
-pub struct Stocked {
-    pub head: Head,
-    pub stock: u64,
     pub weight: u64,
 }
 
@@ -32,7 +26,13 @@ pub struct Priced {
     pub weight: u64,
 }
 
-pub struct Prices {
+pub struct TwoPrices {
+    pub first: Price,
+    pub second: Price,
+    pub weight: u64,
+}
+
+pub struct ThreePrices {
     pub first: Price,
     pub second: Price,
     pub third: Price,
@@ -41,6 +41,12 @@ pub struct Prices {
 
 pub struct Sided {
     pub side: Side,
+    pub weight: u64,
+}
+
+pub struct Lot {
+    pub side: Side,
+    pub shares: u32,
     pub weight: u64,
 }
 
@@ -144,6 +150,21 @@ pub fn side_at(s: &[u8], at: usize) -> Sided
     }
 }
 
+// A side, and the shares behind it.
+pub fn lot_at(s: &[u8], at: usize) -> Lot
+    requires { ⌜ at + 5 ≤ length (now s) ⌝ }
+    ensures { λ r. ⌜ IsLot (now (s .entry)) at r ⌝ }
+{
+    let a = side_at(s, at);
+    let side = a.side;
+    let b = shares_at(s, at + 1);
+    Lot {
+        side,
+        shares: b.shares,
+        weight: a.weight + b.weight,
+    }
+}
+
 pub fn printable_at(s: &[u8], at: usize) -> Printable
     requires { ⌜ at + 1 ≤ length (now s) ⌝ }
     ensures { λ r. ⌜ IsPrintable (now (s .entry)) at r ⌝ }
@@ -191,36 +212,36 @@ pub fn text4_at(s: &[u8], at: usize) -> Text4
     }
 }
 
-// What the messages about one stock begin with.
-pub fn stock_head_at(s: &[u8]) -> Stocked
-    requires { ⌜ 19 ≤ length (now s) ⌝ }
-    ensures { λ r. ⌜ IsStocked (now (s .entry)) r ⌝ }
-{
-    let h = head_at(s);
-    let head = h.head;
-    let stock = text8_at(s, 11);
-    Stocked {
-        head,
-        stock: stock.text,
-        weight: h.weight + stock.weight,
-    }
-}
-
-// Three prices side by side.
-pub fn prices_at(s: &[u8], at: usize) -> Prices
-    requires { ⌜ at + 12 ≤ length (now s) ⌝ }
-    ensures { λ r. ⌜ IsPrices (now (s .entry)) at r ⌝ }
+// Two prices side by side.
+pub fn two_prices_at(s: &[u8], at: usize) -> TwoPrices
+    requires { ⌜ at + 8 ≤ length (now s) ⌝ }
+    ensures { λ r. ⌜ AreTwoPrices (now (s .entry)) at r ⌝ }
 {
     let a = price_at(s, at);
     let first = a.price;
     let b = price_at(s, at + 4);
     let second = b.price;
-    let c = price_at(s, at + 8);
-    let third = c.price;
-    Prices {
+    TwoPrices {
+        first,
+        second,
+        weight: a.weight + b.weight,
+    }
+}
+
+// Three prices side by side.
+pub fn three_prices_at(s: &[u8], at: usize) -> ThreePrices
+    requires { ⌜ at + 12 ≤ length (now s) ⌝ }
+    ensures { λ r. ⌜ AreThreePrices (now (s .entry)) at r ⌝ }
+{
+    let a = two_prices_at(s, at);
+    let first = a.first;
+    let second = a.second;
+    let b = price_at(s, at + 8);
+    let third = b.price;
+    ThreePrices {
         first,
         second,
         third,
-        weight: a.weight + b.weight + c.weight,
+        weight: a.weight + b.weight,
     }
 }

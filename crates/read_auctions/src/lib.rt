@@ -3,11 +3,47 @@
 ghost use mathlib.Core.Path.{_≡_};
 ghost use lib.ListN.{length};
 ghost use Rattle.parsed.specs.Parsed.{IsParsed};
+ghost use Rattle.read_auctions.specs.Ranges.{AreRanges};
+use kinds::Price;
 use messages::DirectListing;
 use messages::Message;
 use messages::NetOrderImbalance;
 use messages::RetailInterest;
 use parsed::Parsed;
+
+// The prices of O, and the time that stands among them.
+struct Ranges {
+    minimum_allowable_price: Price,
+    maximum_allowable_price: Price,
+    near_execution_price: Price,
+    near_execution_time: u64,
+    lower_price_range_collar: Price,
+    upper_price_range_collar: Price,
+    weight: u64,
+}
+
+fn ranges_at(s: &[u8]) -> Ranges
+    requires { ⌜ length (now s) ≡ 48 ⌝ }
+    ensures { λ r. ⌜ AreRanges (now (s .entry)) r ⌝ }
+{
+    let near_execution_time = wire::u64_at(s, 32);
+    let three = checked::three_prices_at(s, 20);
+    let minimum_allowable_price = three.first;
+    let maximum_allowable_price = three.second;
+    let near_execution_price = three.third;
+    let two = checked::two_prices_at(s, 40);
+    let lower_price_range_collar = two.first;
+    let upper_price_range_collar = two.second;
+    Ranges {
+        minimum_allowable_price,
+        maximum_allowable_price,
+        near_execution_price,
+        near_execution_time,
+        lower_price_range_collar,
+        upper_price_range_collar,
+        weight: three.weight + two.weight,
+    }
+}
 
 // I: Net Order Imbalance Indicator, 1.6.
 pub fn net_order_imbalance(s: &[u8]) -> Parsed
@@ -17,7 +53,7 @@ pub fn net_order_imbalance(s: &[u8]) -> Parsed
     let h = checked::head_at(s);
     let head = h.head;
     let stock = checked::text8_at(s, 28);
-    let three = checked::prices_at(s, 36);
+    let three = checked::three_prices_at(s, 36);
     let far_price = three.first;
     let near_price = three.second;
     let current_reference_price = three.third;
@@ -49,13 +85,14 @@ pub fn retail_interest(s: &[u8]) -> Parsed
     ensures { λ r. ⌜ IsParsed 78 (now (s .entry)) r ⌝ }
 {
     let interest_flag = wire::u8_at(s, 19);
-    let h = checked::stock_head_at(s);
+    let h = checked::head_at(s);
     let head = h.head;
+    let stock = checked::text8_at(s, 11);
     Parsed {
-        weight: h.weight,
+        weight: h.weight + stock.weight,
         message: Message::RetailInterest(RetailInterest {
             head,
-            stock: h.stock,
+            stock: stock.text,
             interest_flag,
         }),
     }
@@ -67,27 +104,25 @@ pub fn direct_listing(s: &[u8]) -> Parsed
     ensures { λ r. ⌜ IsParsed 79 (now (s .entry)) r ⌝ }
 {
     let open_eligibility_status = wire::u8_at(s, 19);
-    let near_execution_time = wire::u64_at(s, 32);
-    let h = checked::stock_head_at(s);
+    let ranges = ranges_at(s);
+    let minimum_allowable_price = ranges.minimum_allowable_price;
+    let maximum_allowable_price = ranges.maximum_allowable_price;
+    let near_execution_price = ranges.near_execution_price;
+    let lower_price_range_collar = ranges.lower_price_range_collar;
+    let upper_price_range_collar = ranges.upper_price_range_collar;
+    let h = checked::head_at(s);
     let head = h.head;
-    let three = checked::prices_at(s, 20);
-    let minimum_allowable_price = three.first;
-    let maximum_allowable_price = three.second;
-    let near_execution_price = three.third;
-    let lower = checked::price_at(s, 40);
-    let lower_price_range_collar = lower.price;
-    let upper = checked::price_at(s, 44);
-    let upper_price_range_collar = upper.price;
+    let stock = checked::text8_at(s, 11);
     Parsed {
-        weight: h.weight + three.weight + lower.weight + upper.weight,
+        weight: h.weight + stock.weight + ranges.weight,
         message: Message::DirectListing(DirectListing {
             head,
-            stock: h.stock,
+            stock: stock.text,
             open_eligibility_status,
             minimum_allowable_price,
             maximum_allowable_price,
             near_execution_price,
-            near_execution_time,
+            near_execution_time: ranges.near_execution_time,
             lower_price_range_collar,
             upper_price_range_collar,
         }),

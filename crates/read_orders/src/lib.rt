@@ -1,16 +1,11 @@
 // The seven messages that move orders: A, F, E, C, X, D, U. Each is read at fixed offsets and weighed,
 // and proved against its row of the table of fields. Plain fields are read first, which keeps what is weighed in the prover's reach.
 ghost use mathlib.Core.Path.{_≡_};
-ghost use Prim.Native.Nat.{_≤_};
 ghost use lib.ListN.{length};
 ghost use Rattle.parsed.specs.Parsed.{IsParsed};
-ghost use Rattle.read_orders.specs.Placed.{IsPlaced};
-use kinds::Price;
 use kinds::Reference;
-use kinds::Side;
 use messages::AddOrder;
 use messages::AddOrderMpid;
-use messages::Head;
 use messages::Message;
 use messages::OrderCancel;
 use messages::OrderDelete;
@@ -19,59 +14,27 @@ use messages::OrderExecutedWithPrice;
 use messages::OrderReplace;
 use parsed::Parsed;
 
-// What A and F have in common: the order that they place.
-struct Placed {
-    head: Head,
-    order_reference_number: Reference,
-    buy_sell_indicator: Side,
-    shares: u32,
-    stock: u64,
-    price: Price,
-    weight: u64,
-}
-
-fn placed_at(s: &[u8]) -> Placed
-    requires { ⌜ 36 ≤ length (now s) ⌝ }
-    ensures { λ r. ⌜ IsPlaced (now (s .entry)) r ⌝ }
-{
-    let order_reference_number = Reference(wire::u64_at(s, 11));
-    let h = checked::head_at(s);
-    let head = h.head;
-    let side = checked::side_at(s, 19);
-    let buy_sell_indicator = side.side;
-    let shares = checked::shares_at(s, 20);
-    let stock = checked::text8_at(s, 24);
-    let paid = checked::price_at(s, 32);
-    let price = paid.price;
-    Placed {
-        head,
-        order_reference_number,
-        buy_sell_indicator,
-        shares: shares.shares,
-        stock: stock.text,
-        price,
-        weight: h.weight + side.weight + shares.weight + stock.weight + paid.weight,
-    }
-}
-
 // A: Add Order, no MPID attribution, 1.3.1.
 pub fn add_order(s: &[u8]) -> Parsed
     requires { ⌜ length (now s) ≡ 36 ⌝ }
     ensures { λ r. ⌜ IsParsed 65 (now (s .entry)) r ⌝ }
 {
-    let p = placed_at(s);
-    let head = p.head;
-    let order_reference_number = p.order_reference_number;
-    let buy_sell_indicator = p.buy_sell_indicator;
-    let price = p.price;
+    let order_reference_number = Reference(wire::u64_at(s, 11));
+    let h = checked::head_at(s);
+    let head = h.head;
+    let lot = checked::lot_at(s, 19);
+    let buy_sell_indicator = lot.side;
+    let stock = checked::text8_at(s, 24);
+    let paid = checked::price_at(s, 32);
+    let price = paid.price;
     Parsed {
-        weight: p.weight,
+        weight: h.weight + lot.weight + stock.weight + paid.weight,
         message: Message::AddOrder(AddOrder {
             head,
             order_reference_number,
             buy_sell_indicator,
-            shares: p.shares,
-            stock: p.stock,
+            shares: lot.shares,
+            stock: stock.text,
             price,
         }),
     }
@@ -82,20 +45,23 @@ pub fn add_order_mpid(s: &[u8]) -> Parsed
     requires { ⌜ length (now s) ≡ 40 ⌝ }
     ensures { λ r. ⌜ IsParsed 70 (now (s .entry)) r ⌝ }
 {
-    let p = placed_at(s);
-    let head = p.head;
-    let order_reference_number = p.order_reference_number;
-    let buy_sell_indicator = p.buy_sell_indicator;
-    let price = p.price;
+    let order_reference_number = Reference(wire::u64_at(s, 11));
+    let h = checked::head_at(s);
+    let head = h.head;
+    let lot = checked::lot_at(s, 19);
+    let buy_sell_indicator = lot.side;
+    let stock = checked::text8_at(s, 24);
+    let paid = checked::price_at(s, 32);
+    let price = paid.price;
     let attribution = checked::text4_at(s, 36);
     Parsed {
-        weight: p.weight + attribution.weight,
+        weight: h.weight + lot.weight + stock.weight + paid.weight + attribution.weight,
         message: Message::AddOrderMpid(AddOrderMpid {
             head,
             order_reference_number,
             buy_sell_indicator,
-            shares: p.shares,
-            stock: p.stock,
+            shares: lot.shares,
+            stock: stock.text,
             price,
             attribution: attribution.text,
         }),

@@ -69,13 +69,14 @@ pub fn stock_directory(s: &[u8]) -> Parsed
     let flags = flags_at(s);
     let etp_leverage_factor = wire::u32_at(s, 34);
     let inverse_indicator = wire::u8_at(s, 38);
-    let h = checked::stock_head_at(s);
+    let h = checked::head_at(s);
     let head = h.head;
+    let stock = checked::text8_at(s, 11);
     Parsed {
-        weight: h.weight,
+        weight: h.weight + stock.weight,
         message: Message::StockDirectory(StockDirectory {
             head,
-            stock: h.stock,
+            stock: stock.text,
             market_category: listing.market_category,
             financial_status_indicator: listing.financial_status_indicator,
             round_lot_size: listing.round_lot_size,
@@ -101,13 +102,14 @@ pub fn stock_trading_action(s: &[u8]) -> Parsed
     let trading_state = wire::u8_at(s, 19);
     let reserved = wire::u8_at(s, 20);
     let reason = wire::u32_at(s, 21);
-    let h = checked::stock_head_at(s);
+    let h = checked::head_at(s);
     let head = h.head;
+    let stock = checked::text8_at(s, 11);
     Parsed {
-        weight: h.weight,
+        weight: h.weight + stock.weight,
         message: Message::StockTradingAction(StockTradingAction {
             head,
-            stock: h.stock,
+            stock: stock.text,
             trading_state,
             reserved,
             reason,
@@ -121,13 +123,14 @@ pub fn reg_sho_restriction(s: &[u8]) -> Parsed
     ensures { λ r. ⌜ IsParsed 89 (now (s .entry)) r ⌝ }
 {
     let reg_sho_action = wire::u8_at(s, 19);
-    let h = checked::stock_head_at(s);
+    let h = checked::head_at(s);
     let head = h.head;
+    let stock = checked::text8_at(s, 11);
     Parsed {
-        weight: h.weight,
+        weight: h.weight + stock.weight,
         message: Message::RegShoRestriction(RegShoRestriction {
             head,
-            stock: h.stock,
+            stock: stock.text,
             reg_sho_action,
         }),
     }
@@ -165,15 +168,16 @@ pub fn quoting_period_update(s: &[u8]) -> Parsed
 {
     let ipo_quotation_release_time = wire::u32_at(s, 19);
     let ipo_quotation_release_qualifier = wire::u8_at(s, 23);
-    let h = checked::stock_head_at(s);
+    let h = checked::head_at(s);
     let head = h.head;
+    let stock = checked::text8_at(s, 11);
     let paid = checked::price_at(s, 24);
     let ipo_price = paid.price;
     Parsed {
-        weight: h.weight + paid.weight,
+        weight: h.weight + stock.weight + paid.weight,
         message: Message::QuotingPeriodUpdate(QuotingPeriodUpdate {
             head,
-            stock: h.stock,
+            stock: stock.text,
             ipo_quotation_release_time,
             ipo_quotation_release_qualifier,
             ipo_price,
@@ -187,17 +191,18 @@ pub fn luld_auction_collar(s: &[u8]) -> Parsed
     ensures { λ r. ⌜ IsParsed 74 (now (s .entry)) r ⌝ }
 {
     let auction_collar_extension = wire::u32_at(s, 31);
-    let h = checked::stock_head_at(s);
+    let h = checked::head_at(s);
     let head = h.head;
-    let three = checked::prices_at(s, 19);
+    let stock = checked::text8_at(s, 11);
+    let three = checked::three_prices_at(s, 19);
     let auction_collar_reference_price = three.first;
     let upper_auction_collar_price = three.second;
     let lower_auction_collar_price = three.third;
     Parsed {
-        weight: h.weight + three.weight,
+        weight: h.weight + stock.weight + three.weight,
         message: Message::LuldAuctionCollar(LuldAuctionCollar {
             head,
-            stock: h.stock,
+            stock: stock.text,
             auction_collar_reference_price,
             upper_auction_collar_price,
             lower_auction_collar_price,
@@ -213,13 +218,14 @@ pub fn operational_halt(s: &[u8]) -> Parsed
 {
     let market_code = wire::u8_at(s, 19);
     let operational_halt_action = wire::u8_at(s, 20);
-    let h = checked::stock_head_at(s);
+    let h = checked::head_at(s);
     let head = h.head;
+    let stock = checked::text8_at(s, 11);
     Parsed {
-        weight: h.weight,
+        weight: h.weight + stock.weight,
         message: Message::OperationalHalt(OperationalHalt {
             head,
-            stock: h.stock,
+            stock: stock.text,
             market_code,
             operational_halt_action,
         }),
