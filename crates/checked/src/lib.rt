@@ -3,7 +3,10 @@
 ghost use mathlib.Core.Path.{_≡_};
 ghost use Prim.Native.Nat.{_+_, _≤_, _*_};
 ghost use lib.ListN.{length};
-ghost use Rattle.laws.specs.Field.{field};
+ghost use Rattle.laws.specs.Bools.{fault};
+ghost use Rattle.messages.specs.Numbers.{sideByte};
+ghost use Rattle.wellformed.specs.WellFormed.{goodPrintable, goodSide};
+ghost use Rattle.wellformed.specs.Weight.{sideHeld};
 ghost use Rattle.checked.specs.Checked.{AreThreePrices, AreTwoPrices, IsHeaded, IsLot, IsPriced, IsPrintable, IsShares, IsSided, IsText4, IsText8};
 use kinds::Admission;
 use kinds::Locate;
@@ -126,27 +129,28 @@ pub fn price_at(s: &[u8], at: usize) -> Priced
     }
 }
 
+fn side_of(b: u8) -> Side
+    ensures { λ r. ⌜ sideByte r ≡ sideHeld b ⌝ }
+{
+    if b == b'B' { Side::Buy } else { Side::Sell }
+}
+
+// B is 66 and even, S is 83 and odd: one test for both does not branch on which it is.
+fn side_weight(b: u8) -> u64
+    ensures { λ r. ⌜ (r ≡ 16 * fault (goodSide b)) × (r ≤ 16) ⌝ }
+{
+    if b == 66 + 17 * (b % 2) { 0 } else { 16 }
+}
+
 // A side, which stands at Sell while it is refused.
 pub fn side_at(s: &[u8], at: usize) -> Sided
     requires { ⌜ at + 1 ≤ length (now s) ⌝ }
     ensures { λ r. ⌜ IsSided (now (s .entry)) at r ⌝ }
 {
     let b = wire::u8_at(s, at);
-    if b == 66 {
-        return Sided {
-            side: Side::Buy,
-            weight: 0,
-        };
-    }
-    if b == 83 {
-        return Sided {
-            side: Side::Sell,
-            weight: 0,
-        };
-    }
     Sided {
-        side: Side::Sell,
-        weight: 16,
+        side: side_of(b),
+        weight: side_weight(b),
     }
 }
 
@@ -165,26 +169,21 @@ pub fn lot_at(s: &[u8], at: usize) -> Lot
     }
 }
 
+// Y is 89 and odd, N is 78 and even.
+fn printable_weight(b: u8) -> u64
+    ensures { λ r. ⌜ (r ≡ 16 * fault (goodPrintable b)) × (r ≤ 16) ⌝ }
+{
+    if b == 78 + 11 * (b % 2) { 0 } else { 16 }
+}
+
 pub fn printable_at(s: &[u8], at: usize) -> Printable
     requires { ⌜ at + 1 ≤ length (now s) ⌝ }
     ensures { λ r. ⌜ IsPrintable (now (s .entry)) at r ⌝ }
 {
     let b = wire::u8_at(s, at);
-    if b == 89 {
-        return Printable {
-            printable: b,
-            weight: 0,
-        };
-    }
-    if b == 78 {
-        return Printable {
-            printable: b,
-            weight: 0,
-        };
-    }
     Printable {
         printable: b,
-        weight: 16,
+        weight: printable_weight(b),
     }
 }
 

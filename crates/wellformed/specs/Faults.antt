@@ -1,10 +1,10 @@
 -- When each kind of field is at fault, as equations of numbers: what a test in the code says of a value says its fault.
 -- Assumes nothing.
 use mathlib.Core.Path.{_≡_, refl, sym, ap, _∙_}
-use mathlib.Core.Bool.{Bool, true, false, cond}
-use Prim.Native.Nat.{ℕ, _≤_, _<_}
+use mathlib.Core.Bool.{Bool, true, false, cond, _||_}
+use Prim.Native.Nat.{ℕ, _+_, _*_, _%_, _≤_, _<_}
 use native.Mathlib.Omega.{arith}
-use borrow.Author.Tests.{lt-ltb, le-ltb, le-leb, lt-leb, eq-eqb, ne-eqb}
+use borrow.Author.Tests.{lt-ltb, le-ltb, le-leb, lt-leb, eq-eqb, ne-eqb, eqb-false}
 use lib.Dec.{eqb, leb, ltb}
 use Rattle.laws.specs.Bools.{fault}
 use Rattle.kinds.specs.Admission.{maximum, admission}
@@ -47,27 +47,36 @@ price-too-high v = go (leb v maximum)
     go true e = let z : _≡_ {A = ℕ} 0 1 = cc in absurd (omega arith)
     go false e = (refl, refl)
 
--- a code that is one of two letters
-pub side-buy : (v : ℕ) → v ≡ 66 → (sideHeld v ≡ 66) × (fault (goodSide v) ≡ 0)
-unfolding goodSide sideHeld fault
-side-buy v e = rw e (refl, refl)
+-- a code that is one of two letters: the test that the code makes of both at once says it
+pub side-is : (v : ℕ) → v ≡ 66 + 17 * (v % 2) → fault (goodSide v) ≡ 0
+unfolding goodSide fault
+side-is v e = go (eqb v 66) refl
+  where
+    go : (b : Bool) → eqb v 66 ≡ b → fault (b || eqb v 83) ≡ 0
+    go true p = refl
+    go false p = rw (eq-eqb v 83 (omega (arith, eqb-false v 66 p)))
 
-pub side-sell : (v : ℕ) → v ≡ 83 → (sideHeld v ≡ 83) × (fault (goodSide v) ≡ 0)
-unfolding goodSide sideHeld fault
-side-sell v e = rw e (refl, refl)
+pub side-is-not : (v : ℕ) → (v ≡ 66 + 17 * (v % 2) → ⊥) → fault (goodSide v) ≡ 1
+unfolding goodSide fault
+side-is-not v n = rw (ne-eqb v 66 (λ e. n (omega arith)), ne-eqb v 83 (λ e. n (omega arith)))
 
-pub side-neither : (v : ℕ) → (v ≡ 66 → ⊥) → (v ≡ 83 → ⊥) → (sideHeld v ≡ 83) × (fault (goodSide v) ≡ 1)
-unfolding goodSide sideHeld fault
-side-neither v b s = rw (ne-eqb v 66 b, ne-eqb v 83 s) (refl, refl)
-
-pub printable-y : (v : ℕ) → v ≡ 89 → fault (goodPrintable v) ≡ 0
+pub printable-is : (v : ℕ) → v ≡ 78 + 11 * (v % 2) → fault (goodPrintable v) ≡ 0
 unfolding goodPrintable fault
-printable-y v e = rw e
+printable-is v e = go (eqb v 89) refl
+  where
+    go : (b : Bool) → eqb v 89 ≡ b → fault (b || eqb v 78) ≡ 0
+    go true p = refl
+    go false p = rw (eq-eqb v 78 (omega (arith, eqb-false v 89 p)))
 
-pub printable-n : (v : ℕ) → v ≡ 78 → fault (goodPrintable v) ≡ 0
+pub printable-is-not : (v : ℕ) → (v ≡ 78 + 11 * (v % 2) → ⊥) → fault (goodPrintable v) ≡ 1
 unfolding goodPrintable fault
-printable-n v e = rw e
+printable-is-not v n = rw (ne-eqb v 89 (λ e. n (omega arith)), ne-eqb v 78 (λ e. n (omega arith)))
 
-pub printable-neither : (v : ℕ) → (v ≡ 89 → ⊥) → (v ≡ 78 → ⊥) → fault (goodPrintable v) ≡ 1
-unfolding goodPrintable fault
-printable-neither v y n = rw (ne-eqb v 89 y, ne-eqb v 78 n)
+-- what the code holds of a side
+pub side-buy : (v : ℕ) → v ≡ 66 → sideHeld v ≡ 66
+unfolding sideHeld
+side-buy v e = rw (eq-eqb v 66 e)
+
+pub side-sell : (v : ℕ) → (v ≡ 66 → ⊥) → sideHeld v ≡ 83
+unfolding sideHeld
+side-sell v n = rw (ne-eqb v 66 n)

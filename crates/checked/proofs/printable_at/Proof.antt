@@ -1,19 +1,19 @@
--- Each branch is what its tests decide. Assumes nothing.
+-- What is weighed of the byte that was read is the field's. Assumes nothing.
 use borrow.Author.Needs.{needs}
 use native.Mathlib.Omega.{arith}
+use mathlib.Core.Path.{_≡_}
+use Prim.Native.Nat.{_*_}
+use Rattle.laws.specs.Bools.{fault}
 use Rattle.laws.specs.Field.{field}
-use Rattle.wellformed.specs.Faults.{printable-y, printable-n, printable-neither}
+use Rattle.wellformed.specs.WellFormed.{goodPrintable}
 use Rattle.checked.proofs.printable_at.Statement.{statement}
 use Rattle.checked.proofs.printable_at.Tie as tie
 
 returns : tie.Need-returns
-returns c = omega (arith, printable-y (field (c .before .before .before .args .s .now) (c .before .before .before .args .at) 1) (omega arith))
-
-returns-2 : tie.Need-returns-2
-returns-2 c = omega (arith, printable-n (field (c .before .before .before .before .args .s .now) (c .before .before .before .before .args .at) 1) (omega arith))
-
-returns-3 : tie.Need-returns-3
-returns-3 c = omega (arith, printable-neither (field (c .before .before .before .before .args .s .now) (c .before .before .before .before .args .at) 1) (omega arith) (omega arith))
+returns c =
+    let a = c .before .before .before .args in
+    let weight : c .printable-weight .result ≡ 16 * fault (goodPrintable (field (a .s .now) (a .at) 1)) = cc in
+    omega arith
 
 pub printable-at-spec : {M : Type 1} → statement M
-printable-at-spec = tie.close (tie.spec (λ c κs. search needs) returns returns-2 returns-3)
+printable-at-spec = tie.close (tie.spec (λ c κs. search needs) (λ c κs. search needs) returns)

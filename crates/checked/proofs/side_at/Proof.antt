@@ -1,19 +1,23 @@
--- Each branch is what its tests decide. Assumes nothing.
+-- What is held and weighed of the byte that was read is the field's. Assumes nothing.
 use borrow.Author.Needs.{needs}
 use native.Mathlib.Omega.{arith}
+use mathlib.Core.Path.{_≡_}
+use Prim.Native.Nat.{_*_}
+use Rattle.laws.specs.Bools.{fault}
 use Rattle.laws.specs.Field.{field}
-use Rattle.wellformed.specs.Faults.{side-buy, side-sell, side-neither}
+use Rattle.messages.specs.Numbers.{sideByte}
+use Rattle.wellformed.specs.WellFormed.{goodSide}
+use Rattle.wellformed.specs.Weight.{sideHeld}
 use Rattle.checked.proofs.side_at.Statement.{statement}
 use Rattle.checked.proofs.side_at.Tie as tie
 
 returns : tie.Need-returns
-returns c = omega (arith, side-buy (field (c .before .before .before .args .s .now) (c .before .before .before .args .at) 1) (omega arith))
-
-returns-2 : tie.Need-returns-2
-returns-2 c = omega (arith, side-sell (field (c .before .before .before .before .args .s .now) (c .before .before .before .before .args .at) 1) (omega arith))
-
-returns-3 : tie.Need-returns-3
-returns-3 c = omega (arith, side-neither (field (c .before .before .before .before .args .s .now) (c .before .before .before .before .args .at) 1) (omega arith) (omega arith))
+returns c =
+    let a = c .before .before .before .before .args in
+    let b = field (a .s .now) (a .at) 1 in
+    let held : sideByte (c .before .side-of .result) ≡ sideHeld b = cc in
+    let weight : c .side-weight .result ≡ 16 * fault (goodSide b) = cc in
+    record { side = held; weight = weight; small = omega arith }
 
 pub side-at-spec : {M : Type 1} → statement M
-side-at-spec = tie.close (tie.spec (λ c κs. search needs) returns returns-2 returns-3)
+side-at-spec = tie.close (tie.spec (λ c κs. search needs) (λ c κs. search needs) (λ c κs. search needs) returns)

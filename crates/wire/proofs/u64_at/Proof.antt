@@ -1,4 +1,4 @@
--- Two fields of four bytes side by side. Assumes nothing.
+-- Four bytes and then four. Assumes nothing.
 use borrow.Author.Needs.{needs}
 use native.Mathlib.Omega.{arith}
 use Rattle.laws.specs.FieldLaws.{join}
@@ -6,9 +6,11 @@ use Rattle.wire.proofs.u64_at.Statement.{statement}
 use Rattle.wire.proofs.u64_at.Tie as tie
 
 returns : tie.Need-returns
-returns c = omega (arith, join (c .before .before .before .args .s .now) (c .before .before .before .args .at) 4 4)
+returns c =
+    let a = c .before .before .before .args in
+    omega (arith, join (a .s .now) (a .at) 4 4)
 
 pub u64-at-spec : {M : Type 1} → statement M
 u64-at-spec =
     tie.close
-    (tie.spec (λ c κs. search needs) (λ c. search needs) (λ c. search needs) (λ c κs. search needs) (λ c. search needs) returns)
+    (tie.spec (λ c κs. search needs) (λ c. search needs) (λ c. search needs) (λ c. search needs) (λ c κs. search needs) (λ c. search needs) (λ c. search needs) returns)
