@@ -30,7 +30,8 @@ pub fn u16_at(s: &[u8], at: usize) -> u16
     requires { ⌜ at + 2 ≤ length (now s) ⌝ }
     ensures { λ r. ⌜ r ≡ field (now (s .entry)) at 2 ⌝ }
 {
-    (wide(s[at]) * 256 + wide(s[at + 1])) as u16
+    let x = wide(s[at]) + wide(s[at + 1]) * 256;
+    ((x % 256) * 256 + x / 256) as u16
 }
 
 pub fn u32_at(s: &[u8], at: usize) -> u32
