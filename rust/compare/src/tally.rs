@@ -1,0 +1,130 @@
+//! Asks both readers about an input and keeps the count of what was met.
+
+use crate::guard::{Edge, Guarded};
+
+/// No input is longer than this.
+pub const LONGEST: usize = 0x1_0100;
+
+/// Mismatches shown in full.
+const SHOWN: u64 = 10;
+
+type Numbers = (u8, [u64; 18]);
+
+/// The counts of the whole run, and the memory that inputs and answers are placed in.
+pub struct Tally {
+    input: Guarded,
+    out: Guarded,
+    /// Inputs of each source, in the order of the run.
+    sources: Vec<(&'static str, u64)>,
+    /// How often each number was met.
+    met: [u64; 7],
+    /// Whether a message of the type was accepted.
+    accepted: [bool; 256],
+    mismatches: u64,
+}
+
+impl Tally {
+    pub fn new() -> Self {
+        Tally {
+            input: Guarded::new(LONGEST),
+            out: Guarded::new(size_of::<[u64; 18]>()),
+            sources: vec![],
+            met: [0; 7],
+            accepted: [false; 256],
+            mismatches: 0,
+        }
+    }
+
+    /// The inputs from here on are of this source.
+    pub fn source(&mut self, name: &'static str) {
+        // Said beforehand, since a read out of bounds ends the program.
+        eprintln!("comparing: {name}");
+        self.sources.push((name, 0));
+    }
+
+    /// Compares the product's answer with the second program's.
+    pub fn check(&mut self, message: &[u8]) {
+        let expected = second::numbers(&second::read(message));
+        for edge in [Edge::Back, Edge::Front] {
+            let (answer, kept) = self.product(message, edge);
+            if answer != expected || !kept {
+                self.mismatch(message, edge, expected, answer, kept);
+                break;
+            }
+        }
+        self.met[usize::from(expected.0)] += 1;
+        self.accepted[usize::from(message.first().copied().unwrap_or(0))] |= expected.0 == 0;
+        self.sources.last_mut().expect("a source is named first").1 += 1;
+    }
+
+    /// The product's answer, and whether it left the input as it was.
+    fn product(&mut self, message: &[u8], edge: Edge) -> (Numbers, bool) {
+        let input = self.input.part(message.len(), edge);
+        input.copy_from_slice(message);
+        let out = self.out.numbers(edge);
+        // Any number that is not overwritten stays visible.
+        out.fill(0xA5A5_A5A5_A5A5_A5A5);
+        let number = face::read(input, out);
+        ((number, *out), input == message)
+    }
+
+    fn mismatch(
+        &mut self,
+        message: &[u8],
+        edge: Edge,
+        expected: Numbers,
+        got: Numbers,
+        kept: bool,
+    ) {
+        self.mismatches += 1;
+        if self.mismatches > SHOWN {
+            return;
+        }
+        let (source, _) = self.sources.last().expect("a source is named first");
+        println!(
+            "MISMATCH in {source}, {} bytes, placed at {edge:?}",
+            message.len()
+        );
+        println!("  input    {}", hex(&message[..message.len().min(64)]));
+        println!("  expected {}", shown(&expected));
+        println!("  product  {}", shown(&got));
+        if !kept {
+            println!("  the product has changed the input");
+        }
+    }
+
+    /// Prints the summary; true if all was met and nothing differed.
+    pub fn finish(&self) -> bool {
+        let total: u64 = self.sources.iter().map(|(_, count)| count).sum();
+        println!("inputs by source (each asked twice, against unmapped bytes behind and before):");
+        for (name, count) in &self.sources {
+            println!("  {count:>9}  {name}");
+        }
+        println!("  {total:>9}  in all");
+        println!("number met: how often");
+        for (number, count) in self.met.iter().enumerate() {
+            println!("  {number}: {count:>9}");
+        }
+        let types = self.accepted.iter().filter(|&&accepted| accepted).count();
+        println!("types accepted at least once: {types} of 23");
+        println!("mismatches: {}", self.mismatches);
+        self.mismatches == 0 && types == 23 && self.met.iter().all(|&count| count > 0)
+    }
+}
+
+fn hex(bytes: &[u8]) -> String {
+    bytes.iter().map(|byte| format!("{byte:02X}")).collect()
+}
+
+/// The number, then the values up to the last that is not 0.
+fn shown((number, out): &Numbers) -> String {
+    let used = out
+        .iter()
+        .rposition(|&value| value != 0)
+        .map_or(0, |last| last + 1);
+    let values: Vec<String> = out[..used]
+        .iter()
+        .map(|value| format!("{value:X}"))
+        .collect();
+    format!("{number} [{}]", values.join(" "))
+}
