@@ -1,8 +1,8 @@
 -- A field fits 64 bits by what is known of the struct that holds it. Assumes nothing.
 use borrow.Author.Needs.{needs}
 use native.Mathlib.Omega.{arith}
-use Rattle.numbers.proofs.direct_listing.Statement.{statement}
-use Rattle.numbers.proofs.direct_listing.Tie as tie
+use Rattle.numbers.proofs.auctions.direct_listing.Statement.{statement}
+use Rattle.numbers.proofs.auctions.direct_listing.Tie as tie
 
 pub direct-listing-spec : {M : Type 1} → statement M
 direct-listing-spec =

@@ -1,8 +1,8 @@
 -- A field fits 64 bits by what is known of the struct that holds it. Assumes nothing.
 use borrow.Author.Needs.{needs}
 use native.Mathlib.Omega.{arith}
-use Rattle.numbers.proofs.net_order_imbalance.Statement.{statement}
-use Rattle.numbers.proofs.net_order_imbalance.Tie as tie
+use Rattle.numbers.proofs.auctions.net_order_imbalance.Statement.{statement}
+use Rattle.numbers.proofs.auctions.net_order_imbalance.Tie as tie
 
 pub net-order-imbalance-spec : {M : Type 1} → statement M
 net-order-imbalance-spec =

@@ -1,8 +1,8 @@
 -- A field fits 64 bits by what is known of the struct that holds it. Assumes nothing.
 use borrow.Author.Needs.{needs}
 use native.Mathlib.Omega.{arith}
-use Rattle.numbers.proofs.stock_directory.Statement.{statement}
-use Rattle.numbers.proofs.stock_directory.Tie as tie
+use Rattle.numbers.proofs.stocks.stock_directory.Statement.{statement}
+use Rattle.numbers.proofs.stocks.stock_directory.Tie as tie
 
 pub stock-directory-spec : {M : Type 1} → statement M
 stock-directory-spec =
