@@ -1,0 +1,97 @@
+-- THE DEFINITION of what a message about an order comes to (01, 'What each message does', 'When the book says no', 7 to 13): the
+-- verdict, from the message, the directory's entry and the orders found. No slot is named here. Checks are gates, in 01's order.
+-- Assumes nothing.
+use Prim.Native.Nat.{ℕ}
+use mathlib.Core.Bool.{Bool, true, false, not}
+use lib.Dec.{eqb, leb}
+use Rattle.messages.specs.declared.Refusal.{Refusal}
+use Rattle.directory.specs.declared.Entry.{Entry}
+use Rattle.directory.specs.declared.Entry.the-variants.{Outside, Symbol}
+use Rattle.orders.specs.declared.Order.{Order}
+use Rattle.orders.specs.declared.Held.{Held}
+use Rattle.orders.specs.declared.Held.the-variants.{Sound, Unsound}
+use Rattle.orders.specs.Order.{remaining, executedBy, cancelledBy}
+use Rattle.decide.specs.declared.Step.{Step}
+use Rattle.decide.specs.declared.Step.the-variants.{Refused, One, Two}
+use Rattle.decide.specs.Figured.{figuresOf}
+
+pub data Verdict : Type 0 where
+  -- refused, with this number
+  refuse : ℕ → Verdict
+  -- this order starts a life
+  enter : Order → Verdict
+  -- this order becomes that one, with so many shares taken
+  alter : Order → Order → ℕ → Verdict
+  -- this order ends its life
+  leave : Order → Verdict
+  -- this order ends its life, and that one starts
+  renew : Order → Order → Verdict
+
+-- go on where the test passes, else refuse with n
+abbrev pub gate : Bool → ℕ → Verdict → Verdict
+gate true n v = v
+gate false n v = refuse n
+
+-- what is found under a reference: no live slot, or what the slot holds
+pub data Seen : Type 0 where
+  nothing : Seen
+  something : Held → Seen
+
+abbrev pub isRegistered : Entry → Bool
+isRegistered Outside = false
+isRegistered (Symbol n) = not (eqb n 0)
+
+abbrev pub isSymbol : ℕ → Entry → Bool
+isSymbol symbol Outside = false
+isSymbol symbol (Symbol n) = eqb n symbol
+
+-- A, F: 7, 8, 9, 12
+abbrev pub placing : Entry → ℕ → Bool → Bool → Order → Verdict
+placing entry symbol live room o =
+    gate (isRegistered entry) 7 (gate (isSymbol symbol entry) 8 (gate (not live) 9 (gate room 12 (enter o))))
+
+-- E, C, X: 10, 13, 8, 11; what they do to the order is `step`
+abbrev pub taking : (Order → ℕ → Order) → ℕ → ℕ → Seen → Verdict
+taking step locate n nothing = refuse 10
+taking step locate n (something Unsound) = refuse 13
+taking step locate n (something (Sound o)) =
+    gate (eqb (o .locate .0) locate) 8 (gate (leb n (remaining o)) 11 (alter o (step o n) n))
+
+-- D: 10, 13, 8
+abbrev pub closing : ℕ → Seen → Verdict
+closing locate nothing = refuse 10
+closing locate (something Unsound) = refuse 13
+closing locate (something (Sound o)) = gate (eqb (o .locate .0) locate) 8 (leave o)
+
+-- NSDQ
+abbrev pub unattributed : ℕ
+unattributed = 0x4E534451
+
+-- the order that U starts
+abbrev pub renewed : Order → ℕ → ℕ → ℕ → Order
+renewed o new shares price = record {
+  reference = record { 0 = new };
+  price = record { 0 = price };
+  added = shares;
+  executed = 0;
+  cancelled = 0;
+  closed = 0;
+  locate = o .locate;
+  side = o .side;
+  attribution = unattributed;
+}
+
+-- U: 10, 13, 8, 9
+abbrev pub replacing : ℕ → ℕ → ℕ → ℕ → ℕ → Bool → Seen → Verdict
+replacing locate original new shares price live nothing = refuse 10
+replacing locate original new shares price live (something Unsound) = refuse 13
+replacing locate original new shares price live (something (Sound o)) =
+    gate (eqb (o .locate .0) locate) 8 (gate (not (eqb new original)) 9 (gate (not live) 9 (renew o (renewed o new shares price))))
+
+-- what the answer says of a verdict
+abbrev pub stepOf : Verdict → Step
+stepOf (refuse n) = Refused (record { number = n })
+stepOf (enter o) = One (figuresOf o (o .added) (remaining o))
+stepOf (alter o o′ n) = One (figuresOf o n (remaining o′))
+stepOf (leave o) = One (figuresOf o (remaining o) 0)
+stepOf (renew o o′) = Two (figuresOf o (remaining o) 0) (figuresOf o′ (o′ .added) (remaining o′))

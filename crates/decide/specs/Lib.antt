@@ -1,0 +1,5 @@
+pub mod Decide
+pub mod Figured
+pub mod Stepped
+pub mod Stored
+pub mod Verdicts
