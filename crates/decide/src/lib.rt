@@ -38,3 +38,9 @@ pub fn figured(o: Order, shares: u32, remains: u32) -> Figures
         remains,
     }
 }
+
+pub fn refuse(n: u8) -> Step
+    ensures { λ r. ⌜ r ≡ Step.Refused (record { number = n }) ⌝ }
+{
+    Step::Refused(Refusal { number: n })
+}
