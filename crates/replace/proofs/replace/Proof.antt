@@ -2,6 +2,7 @@
 -- full there. Assumes nothing.
 use mathlib.Core.Path.{_≡_, _∙_}
 use borrow.Author.Needs.{needs}
+use native.Mathlib.Omega.{arith}
 use Rattle.book.specs.declared.Found.the-variants.{At, Nothing}
 use Rattle.book.specs.Book.{find, lowestFree, clearSlot}
 use Rattle.book.specs.Finds.{found-slot, free-slot}
@@ -51,7 +52,7 @@ returns-3 c =
     let h = c .before .before .before .before .before .before .held .given in
     let o = h .0 .0 in
     let sound : heldAt b (a .k) (s .0) ≡ Sound o = holding b (a .k) (s .0) (c .before .before .before .before .before .before .before .before .held-at .result) (Sound o) (c .before .before .before .before .before .before .before .before .held-at .ensures) (h .1) in
-    elsewhere b (a .k) (a .locate .0) (a .original .0) (a .new .0) (a .shares) (a .price .0) (c .refuse3 .result) s at o sound (c .before .if1 .taken) (c .refuse3 .ensures)
+    elsewhere b (a .k) (a .locate .0) (a .original .0) (a .new .0) (a .shares) (a .price .0) (c .refuse3 .result) s at o sound (omega (arith, c .before .if1 .taken)) (c .refuse3 .ensures)
 
 returns-4 : tie.Need-returns-4
 returns-4 c =
@@ -63,7 +64,7 @@ returns-4 c =
     let h = c .before .before .before .before .before .before .before .before .before .held .given in
     let o = h .0 .0 in
     let sound : heldAt b (a .k) (s .0) ≡ Sound o = holding b (a .k) (s .0) (c .before .before .before .before .before .before .before .before .before .before .before .held-at .result) (Sound o) (c .before .before .before .before .before .before .before .before .before .before .before .held-at .ensures) (h .1) in
-    itself b (a .k) (a .locate .0) (a .original .0) (a .new .0) (a .shares) (a .price .0) (c .refuse4 .result) s at o sound (c .before .before .before .before .if1 .left) (c .before .if2 .taken) (c .refuse4 .ensures)
+    itself b (a .k) (a .locate .0) (a .original .0) (a .new .0) (a .shares) (a .price .0) (c .refuse4 .result) s at o sound (omega (arith, c .before .before .before .before .if1 .left)) (omega (arith, c .before .if2 .taken)) (c .refuse4 .ensures)
 
 returns-5 : tie.Need-returns-5
 returns-5 c =

@@ -6,6 +6,7 @@ use Rattle.orders.specs.declared.Held.the-variants.{Sound, Unsound}
 use Rattle.decide.specs.Stored.{heldAt}
 use Rattle.take.proofs.Laws.{in-book, gone-fits, closed-fits, delete-none, delete-unsound, delete-elsewhere, delete-done}
 use borrow.Author.Needs.{needs}
+use native.Mathlib.Omega.{arith}
 use Rattle.take.proofs.delete.Statement.{statement}
 use Rattle.take.proofs.delete.Tie as tie
 
@@ -41,7 +42,7 @@ returns-3 c =
     let o = g .held .given .0 .0 in
     let e : find (a .book .now) (a .k) (a .reference .0) ≡ At s = cc (f .before .before .find .ensures, f .found .given .1) in
     let h : heldAt (a .book .now) (a .k) (s .0) ≡ Sound o = cc (g .before .before .held-at .ensures, g .held .given .1) in
-    delete-elsewhere (a .book .now) (a .k) (a .reference .0) (a .locate .0) s o e h (c .before .if1 .taken) (c .refuse3 .ensures)
+    delete-elsewhere (a .book .now) (a .k) (a .reference .0) (a .locate .0) s o e h (omega (arith, c .before .if1 .taken)) (c .refuse3 .ensures)
 
 remaining-requires : tie.Need-remaining-requires
 remaining-requires c κs =
@@ -91,7 +92,7 @@ returns-4 c =
     let e : find (a .book .now) (a .k) (a .reference .0) ≡ At s = cc (f .before .before .find .ensures, f .found .given .1) in
     let h : heldAt (a .book .now) (a .k) (s .0) ≡ Sound o = cc (g .before .before .held-at .ensures, g .held .given .1) in
     delete-done (a .book .now) (a .k) (a .reference .0) (a .locate .0) s o _ _ _ _ e h
-    (c .before .before .before .before .before .before .before .before .if1 .left)
+    (omega (arith, c .before .before .before .before .before .before .before .before .if1 .left))
     (c .before .before .before .before .before .before .before .remaining .ensures)
     (c .before .before .before .before .before .before .closed .ensures) (c .before .remaining2 .ensures)
     (c .figured .ensures)

@@ -44,7 +44,7 @@ returns-3 c =
     let o = g .held .given .0 .0 in
     let e : find (a .book .now) (a .k) (a .reference .0) ≡ At s = cc (f .before .before .find .ensures, f .found .given .1) in
     let h : heldAt (a .book .now) (a .k) (s .0) ≡ Sound o = cc (g .before .before .held-at .ensures, g .held .given .1) in
-    elsewhere-taken (a .book .now) (a .k) (a .reference .0) (a .locate .0) (a .n) (a .how) s o e h (c .before .if1 .taken)
+    elsewhere-taken (a .book .now) (a .k) (a .reference .0) (a .locate .0) (a .n) (a .how) s o e h (omega (arith, c .before .if1 .taken))
     (c .refuse3 .ensures)
 
 remaining-requires : tie.Need-remaining-requires
@@ -68,7 +68,7 @@ returns-4 c =
     let h : heldAt (a .book .now) (a .k) (s .0) ≡ Sound o = cc (g .before .before .held-at .ensures, g .held .given .1) in
     let m : remaining o < a .n = omega (arith, c .before .before .remaining .ensures, c .before .if2 .taken) in
     over-taken (a .book .now) (a .k) (a .reference .0) (a .locate .0) (a .n) (a .how) s o e h
-    (c .before .before .before .if1 .left) m (c .refuse4 .ensures)
+    (omega (arith, c .before .before .before .if1 .left)) m (c .refuse4 .ensures)
 
 taken-requires : tie.Need-taken-requires
 taken-requires c κs =
