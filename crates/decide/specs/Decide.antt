@@ -1,8 +1,8 @@
--- THE DEFINITION of what a message about an order comes to (01, 'What each message does', 'When the book says no', 7 to 13): the
+-- THE DEFINITION of what a message comes to (01, 'What each message does', 'When the book says no', 7 to 13): the
 -- verdict, from the message, the directory's entry and the orders found. No slot is named here. Checks are gates, in 01's order.
 -- Assumes nothing.
 use Prim.Native.Nat.{ℕ}
-use mathlib.Core.Bool.{Bool, true, false, not}
+use mathlib.Core.Bool.{Bool, true, false, not, cond}
 use lib.Dec.{eqb, leb}
 use Rattle.messages.specs.declared.Refusal.{Refusal}
 use Rattle.directory.specs.declared.Entry.{Entry}
@@ -12,7 +12,7 @@ use Rattle.orders.specs.declared.Held.{Held}
 use Rattle.orders.specs.declared.Held.the-variants.{Sound, Unsound}
 use Rattle.orders.specs.Order.{remaining, executedBy, cancelledBy}
 use Rattle.decide.specs.declared.Step.{Step}
-use Rattle.decide.specs.declared.Step.the-variants.{Refused, One, Two}
+use Rattle.decide.specs.declared.Step.the-variants.{Refused, Plain, One, Two}
 use Rattle.decide.specs.Figured.{figuresOf}
 
 pub data Verdict : Type 0 where
@@ -26,6 +26,10 @@ pub data Verdict : Type 0 where
   leave : Order → Verdict
   -- this order ends its life, and that one starts
   renew : Order → Order → Verdict
+  -- this locate is given that symbol
+  enroll : ℕ → ℕ → Verdict
+  -- accepted, and nothing changes
+  pass : Verdict
 
 -- go on where the test passes, else refuse with n
 abbrev pub gate : Bool → ℕ → Verdict → Verdict
@@ -44,6 +48,11 @@ isRegistered (Symbol n) = not (eqb n 0)
 abbrev pub isSymbol : ℕ → Entry → Bool
 isSymbol symbol Outside = false
 isSymbol symbol (Symbol n) = eqb n symbol
+
+-- R: 7, 8; the same symbol again is accepted and changes nothing
+abbrev pub registering : Entry → ℕ → ℕ → Verdict
+registering Outside locate symbol = refuse 7
+registering (Symbol n) locate symbol = cond (eqb n 0) (enroll locate symbol) (gate (eqb n symbol) 8 pass)
 
 -- A, F: 7, 8, 9, 12
 abbrev pub placing : Entry → ℕ → Bool → Bool → Order → Verdict
@@ -95,3 +104,5 @@ stepOf (enter o) = One (figuresOf o (o .added) (remaining o))
 stepOf (alter o o′ n) = One (figuresOf o n (remaining o′))
 stepOf (leave o) = One (figuresOf o (remaining o) 0)
 stepOf (renew o o′) = Two (figuresOf o (remaining o) 0) (figuresOf o′ (o′ .added) (remaining o′))
+stepOf (enroll locate symbol) = Plain
+stepOf pass = Plain

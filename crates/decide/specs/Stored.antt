@@ -1,4 +1,4 @@
--- What is seen in the book, and what a verdict stores there (01, 'The tables the desk lends'). Assumes nothing.
+-- What is seen in the book, and what a verdict stores in the tables (01, 'The tables the desk lends'). Assumes nothing.
 use Prim.Native.Nat.{ℕ}
 use mathlib.Core.Bool.{Bool, true, false, cond}
 use mathlib.Core.List.{List}
@@ -6,10 +6,11 @@ use lib.Dec.{eqb}
 use Rattle.book.specs.declared.Found.{Found}
 use Rattle.book.specs.declared.Found.the-variants.{At, Nothing}
 use Rattle.book.specs.Book.{find, lowestFree, numberAt, putSlot, clearSlot}
+use Rattle.directory.specs.Directory.{registered}
 use Rattle.orders.specs.declared.Order.{Order}
 use Rattle.orders.specs.declared.Held.{Held}
 use Rattle.orders.specs.Order.{held, remaining, second, third, fourth}
-use Rattle.decide.specs.Decide.{Verdict, refuse, enter, alter, leave, renew, Seen, nothing, something}
+use Rattle.decide.specs.Decide.{Verdict, refuse, enter, alter, leave, renew, enroll, pass, Seen, nothing, something}
 
 -- what slot s holds
 unfoldable pub heldAt : List ℕ → ℕ → ℕ → Held
@@ -52,3 +53,15 @@ stored b k s (enter o) = entered b k o
 stored b k s (alter o o′ n) = kept b k s o′
 stored b k s (leave o) = clearSlot b k s
 stored b k s (renew o o′) = entered (clearSlot b k s) k o′
+stored b k s (enroll locate symbol) = b
+stored b k s pass = b
+
+-- the directory after a verdict
+abbrev pub enrolled : List ℕ → Verdict → List ℕ
+enrolled d (refuse n) = d
+enrolled d (enter o) = d
+enrolled d (alter o o′ n) = d
+enrolled d (leave o) = d
+enrolled d (renew o o′) = d
+enrolled d (enroll locate symbol) = registered d locate symbol
+enrolled d pass = d

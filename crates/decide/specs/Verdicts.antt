@@ -9,7 +9,22 @@ use Rattle.directory.specs.declared.Entry.the-variants.{Outside, Symbol}
 use Rattle.orders.specs.declared.Order.{Order}
 use Rattle.orders.specs.declared.Held.the-variants.{Sound, Unsound}
 use Rattle.orders.specs.Order.{remaining}
-use Rattle.decide.specs.Decide.{Verdict, refuse, enter, alter, leave, renew, Seen, nothing, something, placing, taking, closing, replacing, renewed}
+use Rattle.decide.specs.Decide.{Verdict, refuse, enter, alter, leave, renew, enroll, pass, Seen, nothing, something, registering, placing, taking, closing, replacing, renewed}
+
+-- ---- R
+
+module _ (e : Entry) (locate symbol : ℕ) where
+  pub nowhere : e ≡ Outside → registering e locate symbol ≡ refuse 7
+  nowhere p = rw p
+
+  pub enrolls : {n : ℕ} → e ≡ Symbol n → n ≡ 0 → registering e locate symbol ≡ enroll locate symbol
+  enrolls p q = rw (p, q)
+
+  pub conflict : {n : ℕ} → e ≡ Symbol n → (n ≡ 0 → ⊥) → (n ≡ symbol → ⊥) → registering e locate symbol ≡ refuse 8
+  conflict {n} p z d = rw (p, ne-eqb n 0 z, ne-eqb n symbol d)
+
+  pub known : {n : ℕ} → e ≡ Symbol n → (n ≡ 0 → ⊥) → n ≡ symbol → registering e locate symbol ≡ pass
+  known {n} p z d = rw (p, ne-eqb n 0 z, eq-eqb n symbol d)
 
 -- ---- A, F
 

@@ -17,9 +17,10 @@ pub struct Figures {
     pub remains: u32,
 }
 
-// What a message about orders comes to.
+// What a message comes to: refused, accepted with no order concerned, or with the figures of one order or of two.
 pub enum Step {
     Refused(Refusal),
+    Plain,
     One(Figures),
     Two(Figures, Figures),
 }

@@ -1,0 +1,52 @@
+// The public call over both tables: any bytes to the answer that 01 fixes, with the tables changed as 01 says or not at all.
+ghost use mathlib.Core.Path.{_≡_};
+ghost use Rattle.apply.specs.Apply.{After, applied, concluded};
+use decide::Figures;
+use decide::Step;
+use messages::Answer;
+use messages::Message;
+use messages::Refusal;
+
+// What applying a message comes to: its refusal, its typed fields alone, or with the figures of the orders it concerns.
+pub enum Outcome {
+    Refused(Refusal),
+    Accepted(Message),
+    Moved(Message, Figures),
+    Replaced(Message, Figures, Figures),
+}
+
+fn conclude(m: Message, step: Step) -> Outcome
+    ensures { λ r. ⌜ r ≡ concluded m step ⌝ }
+{
+    match step {
+        Step::Refused(refusal) => Outcome::Refused(refusal),
+        Step::Plain => Outcome::Accepted(m),
+        Step::One(figures) => Outcome::Moved(m, figures),
+        Step::Two(old, new) => Outcome::Replaced(m, old, new),
+    }
+}
+
+fn refuse_shape() -> Outcome
+    ensures { λ r. ⌜ r ≡ Outcome.Refused (record { number = 14 }) ⌝ }
+{
+    Outcome::Refused(Refusal { number: 14 })
+}
+
+// Applies one message to the directory and the book: 14, 1 to 6 and 7 to 13 are refused and change nothing.
+pub fn apply(directory: &mut [u64], book: &mut [u64], bytes: &[u8]) -> Outcome
+    ensures { λ r. ⌜ record { outcome = r; directory = now (directory .exit); book = now (book .exit) } ≡ applied (now (directory .entry)) (now (book .entry)) (now (bytes .entry)) ⌝ }
+{
+    let good = directory::good_length(directory.len());
+    if !good {
+        return refuse_shape();
+    }
+    let k = book::words_of(book.len());
+    if k == 0 {
+        return refuse_shape();
+    }
+    let answer = reader::read(bytes);
+    match answer {
+        Answer::Refused(refusal) => Outcome::Refused(refusal),
+        Answer::Good(m) => conclude(m, steps::step(directory, book, k, m)),
+    }
+}
