@@ -13,7 +13,7 @@ use kinds::Side;
 use messages::Answer;
 use messages::Message;
 
-fn side_byte(side: Side) -> u64
+pub fn side_byte(side: Side) -> u64
     ensures { λ r. ⌜ r ≡ sideByte side ⌝ }
 {
     match side {
@@ -22,7 +22,7 @@ fn side_byte(side: Side) -> u64
     }
 }
 
-fn message(m: Message, out: &mut [u64; 18])
+pub fn message(m: Message, out: &mut [u64; 18])
     ensures { λ _. ⌜ now (out .exit) ≡ shown m ⌝ }
 {
     match m {

@@ -1,0 +1,28 @@
+-- What the calls for another language ensure: the numbers of what the calls below them answer, and both tables. Assumes nothing.
+use Prim.Native.Nat.{ℕ}
+use mathlib.Core.Path.{_≡_}
+use mathlib.Core.List.{List}
+use Rattle.fresh.specs.declared.Made.{Made}
+use Rattle.fresh.specs.declared.Made.the-variants.{Fresh, Refused}
+use Rattle.fresh.specs.Fresh.{madeOf, freshOf}
+use Rattle.apply.specs.Apply.{After}
+use Rattle.outcomes.specs.Outcomes.{numberOf, rowOf, orderRow}
+
+-- 01's number of what making tables fresh came to
+abbrev pub madeNumber : Made → ℕ
+madeNumber Fresh = 0
+madeNumber (Refused r) = r .number
+
+-- the number r, and the tables d and b became d′ and b′
+pub record Freshens (d b : List ℕ) (r : ℕ) (d′ b′ : List ℕ) : Type 0 where
+  pub number : r ≡ madeNumber (madeOf d b)
+  pub directory : d′ ≡ freshOf d b d
+  pub book : b′ ≡ freshOf d b b
+
+-- the number r, both tables, the message's numbers and the orders' figures, for what apply leaves
+pub record Answers (a : After) (r : ℕ) (d b out figures : List ℕ) : Type 0 where
+  pub number : r ≡ numberOf (a .outcome)
+  pub directory : d ≡ a .directory
+  pub book : b ≡ a .book
+  pub message : out ≡ rowOf (a .outcome)
+  pub orders : figures ≡ orderRow (a .outcome)
