@@ -1,27 +1,78 @@
 -- THE CLAIM: every row of the table of starred cases holds. One test computes them all, and a law takes it to each row.
 -- Assumes nothing.
-use mathlib.Core.Path.{_≡_, refl}
-use mathlib.Core.Bool.{Bool, true, _&&_}
+use mathlib.Core.Path.{_≡_, refl, ap₂}
+use mathlib.Core.Bool.{Bool, true, false, _&&_, false≢true}
 use mathlib.Core.List.{List, [], _∷_, List·Memᴰ as Among, List·Memᴰ·head as here, List·Memᴰ·tail as there}
+use Prim.Native.Nat.{ℕ}
 use borrow.Author.Tests.{eqb-true}
 use lib.Dec.{eqb}
+use lib.ListN.{replicate}
 use Rattle.laws.specs.Bools.{and-left, and-right}
+use Rattle.laws.specs.Bit.{bit, setBit, clearBit}
 use Rattle.laws.specs.Field.{field}
+use Rattle.laws.specs.Least.{least, pickN}
 use Rattle.kinds.specs.Admission.{maximum}
 use Rattle.text.specs.Text.{letter, letters, text}
 use Rattle.layout.specs.Layout.{lengthOf}
 use Rattle.wellformed.specs.WellFormed.{goodTime, goodShares, goodPrice, goodSide, goodPrintable, refusal}
 use Rattle.reader.specs.Read.{judgedAs, answer}
 use Rattle.numbers.specs.Shown.{number}
-use Rattle.cases.specs.Table.{Case, table}
+use Rattle.directory.specs.Directory.{mostNumbers, goodLength, entryAt, registered}
+use Rattle.book.specs.Book.{mostWords, wordsOf, live, numberAt, holds, isFree, foundBelow, find, lowestFree, four, putSlot, clearSlot}
+use Rattle.orders.specs.Order.{remaining, executedBy, cancelledBy, closedOf, second, third, fourth, sound, orderOf, held}
+use Rattle.decide.specs.Stored.{heldAt, putOrder, entered, kept}
+use Rattle.fresh.specs.Fresh.{goodShapes, madeNumber, madeOf}
+use Rattle.apply.specs.Apply.{After, applied}
+use Rattle.outcomes.specs.Outcomes.{numberOf, orderRow}
+use Rattle.cases.specs.Table.{Case, read, run, shape, table}
+
+-- the answer to the last of some messages applied in turn, and both tables then
+abbrev pub onward : After → List (List ℕ) → After
+onward a [] = a
+onward a (s ∷ ss) = onward (applied (a .directory) (a .book) s) ss
+
+abbrev pub lastly : List ℕ → List ℕ → List (List ℕ) → After
+lastly d b [] = applied d b []
+lastly d b (s ∷ ss) = onward (applied d b s) ss
+
+-- an answer and both tables are those of a row
+pub record Left (a : After) (n : ℕ) (figures d b : List ℕ) : Type 0 where
+  pub number : numberOf (a .outcome) ≡ n
+  pub orders : orderRow (a .outcome) ≡ figures
+  pub directory : a .directory ≡ d
+  pub book : a .book ≡ b
 
 -- what a row claims
-pub record Holds (c : Case) : Type 0 where
-  pub answered : number (answer (c .bytes)) ≡ c .number
+abbrev pub Holds : Case → Type 0
+Holds (read s n) = number (answer s) ≡ n
+Holds (run ms n figures d b) = Left (lastly (replicate 2 0) (replicate 257 0) ms) n figures d b
+Holds (shape d b n m) =
+    (madeNumber (madeOf (replicate d 0) (replicate b 0)) ≡ n) × (numberOf (applied (replicate d 0) (replicate b 0) [] .outcome) ≡ m)
 
--- the same as a test
+-- ---- the same as a test
+
+abbrev same : List ℕ → List ℕ → Bool
+same [] [] = true
+same [] (y ∷ ys) = false
+same (x ∷ xs) [] = false
+same (x ∷ xs) (y ∷ ys) = eqb x y && same xs ys
+
+same-true : (xs ys : List ℕ) → same xs ys ≡ true → xs ≡ ys
+same-true [] [] e = refl
+same-true [] (y ∷ ys) e = absurd (false≢true e)
+same-true (x ∷ xs) [] e = absurd (false≢true e)
+same-true (x ∷ xs) (y ∷ ys) e =
+    ap₂ _∷_ (eqb-true x y (and-left (eqb x y) (same xs ys) e)) (same-true xs ys (and-right (eqb x y) (same xs ys) e))
+
+abbrev ran : After → ℕ → List ℕ → List ℕ → List ℕ → Bool
+ran a n figures d b =
+    eqb (numberOf (a .outcome)) n && (same (orderRow (a .outcome)) figures && (same (a .directory) d && same (a .book) b))
+
 abbrev passes : Case → Bool
-passes c = eqb (number (answer (c .bytes))) (c .number)
+passes (read s n) = eqb (number (answer s)) n
+passes (run ms n figures d b) = ran (lastly (replicate 2 0) (replicate 257 0) ms) n figures d b
+passes (shape d b n m) =
+    eqb (madeNumber (madeOf (replicate d 0) (replicate b 0))) n && eqb (numberOf (applied (replicate d 0) (replicate b 0) [] .outcome)) m
 
 abbrev all-pass : List Case → Bool
 all-pass [] = true
@@ -29,11 +80,39 @@ all-pass (c ∷ cs) = passes c && all-pass cs
 
 computed : all-pass table ≡ true
 unfolding answer lengthOf judgedAs refusal field goodTime goodShares goodPrice goodSide goodPrintable text letters letter maximum
+    mostNumbers goodLength entryAt registered mostWords wordsOf live numberAt holds isFree foundBelow find lowestFree four putSlot clearSlot
+    bit setBit clearBit least pickN remaining executedBy cancelledBy closedOf second third fourth sound orderOf held heldAt putOrder entered
+    kept goodShapes madeOf applied
 computed = refl
+
+-- ---- and back
+
+ran-left : (a : After) (n : ℕ) (figures d b : List ℕ) → ran a n figures d b ≡ true → Left a n figures d b
+ran-left a n figures d b e =
+    let t0 = eqb (numberOf (a .outcome)) n in
+    let t1 = same (orderRow (a .outcome)) figures in
+    let t2 = same (a .directory) d in
+    let t3 = same (a .book) b in
+    let e1 = and-right t0 (t1 && (t2 && t3)) e in
+    let e2 = and-right t1 (t2 && t3) e1 in
+    record {
+      number = eqb-true (numberOf (a .outcome)) n (and-left t0 (t1 && (t2 && t3)) e);
+      orders = same-true (orderRow (a .outcome)) figures (and-left t1 (t2 && t3) e1);
+      directory = same-true (a .directory) d (and-left t2 t3 e2);
+      book = same-true (a .book) b (and-right t2 t3 e2);
+    }
+
+means : (c : Case) → passes c ≡ true → Holds c
+means (read s n) e = eqb-true (number (answer s)) n e
+means (run ms n figures d b) e = ran-left (lastly (replicate 2 0) (replicate 257 0) ms) n figures d b e
+means (shape d b n m) e =
+    let x = madeNumber (madeOf (replicate d 0) (replicate b 0)) in
+    let y = numberOf (applied (replicate d 0) (replicate b 0) [] .outcome) in
+    (eqb-true x n (and-left (eqb x n) (eqb y m) e), eqb-true y m (and-right (eqb x n) (eqb y m) e))
 
 passed : {c : Case} {cs : List Case} → all-pass cs ≡ true → Among c cs → passes c ≡ true
 passed e (here {x = x} {xs = xs} q) = rw q (and-left (passes x) (all-pass xs) e)
 passed e (there {x = x} {xs = xs} m) = passed (and-right (passes x) (all-pass xs) e) m
 
 pub cases-hold : (c : Case) → Among c table → Holds c
-cases-hold c m = record { answered = eqb-true _ _ (passed computed m) }
+cases-hold c m = means c (passed computed m)

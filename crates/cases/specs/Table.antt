@@ -1,12 +1,17 @@
--- 01's starred cases ('Cases by the book'), one row a case or a part of one: the bytes that are read, and the number that 01 gives
--- for them. Hold.antt proves every row. Assumes nothing.
+-- 01's starred cases ('Cases by the book'), one row a case or a part of one: what is lent, and what 01 says of the answer and of
+-- the tables. Hold.antt proves every row. Assumes nothing.
 use Prim.Native.Nat.{ℕ, zero, suc, _/_, _%_}
 use mathlib.Core.List.{List, [], _∷_, _++_}
+use lib.ListN.{replicate}
 
--- a later case adds a column here, and what it claims to `Holds` of Hold.antt
-pub record Case : Type 0 where
-  pub bytes : List ℕ
-  pub number : ℕ
+pub data Case : Type 0 where
+  -- bytes that are read, and the number of the answer
+  read : (bytes : List ℕ) (number : ℕ) → Case
+  -- messages applied in turn to fresh tables, of 2 and of 257 numbers: of the last answer its number and the order's figures, and
+  -- both whole tables that are left
+  run : (messages : List (List ℕ)) (number : ℕ) (figures directory book : List ℕ) → Case
+  -- tables of so many zeros: the number of making them fresh, and of applying no bytes to them
+  shape : (directory book : ℕ) (fresh apply : ℕ) → Case
 
 -- the w big-endian bytes of v
 abbrev pub be : ℕ → ℕ → List ℕ
@@ -17,16 +22,62 @@ be (suc w) v = be w (v / 256) ++ (v % 256 ∷ [])
 abbrev pub header : ℕ → ℕ → List ℕ
 header t time = t ∷ be 2 1 ++ be 2 0 ++ be 6 time
 
--- D: the order 5 is deleted
-abbrev pub deleteAt : ℕ → List ℕ
-deleteAt time = header 68 time ++ be 8 5
+abbrev pub ZVZZT : ℕ
+ZVZZT = 0x5A565A5A54202020
 
--- A: the order 5 buys 300 of ZVZZT
-abbrev pub addAt : ℕ → List ℕ
-addAt price = header 65 0 ++ be 8 5 ++ 66 ∷ be 4 300 ++ be 8 0x5A565A5A54202020 ++ be 4 price
+-- R: ZVZZT at locate 1, every code a space
+abbrev pub register : List ℕ
+register = header 82 0 ++ be 8 ZVZZT ++ replicate 20 32
 
-abbrev pub read : List ℕ → ℕ → Case
-read s n = record { bytes = s; number = n }
+-- A: an order of ZVZZT
+abbrev pub add : ℕ → ℕ → ℕ → ℕ → List ℕ
+add reference side shares price = header 65 0 ++ be 8 reference ++ side ∷ be 4 shares ++ be 8 ZVZZT ++ be 4 price
+
+-- E
+abbrev pub execute : ℕ → ℕ → List ℕ
+execute reference shares = header 69 0 ++ be 8 reference ++ be 4 shares ++ be 8 1
+
+-- X
+abbrev pub cancel : ℕ → ℕ → List ℕ
+cancel reference shares = header 88 0 ++ be 8 reference ++ be 4 shares
+
+-- D, at a time
+abbrev pub deleteAt : ℕ → ℕ → List ℕ
+deleteAt time reference = header 68 time ++ be 8 reference
+
+-- U
+abbrev pub replace : ℕ → ℕ → ℕ → ℕ → List ℕ
+replace original new shares price = header 85 0 ++ be 8 original ++ be 8 new ++ be 4 shares ++ be 4 price
+
+-- the order 5 of 01's whole case: a buy of 300 at 100000
+abbrev pub five : List ℕ
+five = add 5 66 300 100000
+
+-- R, then order 5, E 100 and X 50
+abbrev pub fourth : List (List ℕ)
+fourth = register ∷ five ∷ execute 5 100 ∷ cancel 5 50 ∷ []
+
+-- a directory with ZVZZT at locate 1
+abbrev pub listed : List ℕ
+listed = 0 ∷ ZVZZT ∷ []
+
+-- books of 64 slots: none live, the first, the first two
+abbrev pub empty : List ℕ
+empty = replicate 257 0
+
+abbrev pub holding : ℕ → ℕ → ℕ → ℕ → List ℕ
+holding n0 n1 n2 n3 = 1 ∷ n0 ∷ n1 ∷ n2 ∷ n3 ∷ replicate 252 0
+
+abbrev pub holdingTwo : ℕ → ℕ → ℕ → ℕ → ℕ → ℕ → ℕ → ℕ → List ℕ
+holdingTwo n0 n1 n2 n3 p0 p1 p2 p3 = 3 ∷ n0 ∷ n1 ∷ n2 ∷ n3 ∷ p0 ∷ p1 ∷ p2 ∷ p3 ∷ replicate 248 0
+
+-- of a buy at 100000 at locate 1: shares taken or put, and what then remains
+abbrev pub bought : ℕ → ℕ → List ℕ
+bought shares remains = 1 ∷ 66 ∷ 100000 ∷ shares ∷ remains ∷ replicate 5 0
+
+-- the book after case 4
+abbrev pub fourthBook : List ℕ
+fourthBook = holding 5 0x000186A00000012C 0x0000006400000032 0x0001424E53445100
 
 abbrev pub table : List Case
 table =
@@ -35,9 +86,31 @@ table =
     ∷ read (65 ∷ []) 1
     ∷ read (90 ∷ []) 2
     -- 2: time 86,399,999,999,999 passes, 86,400,000,000,000: 3
-    ∷ read (deleteAt 86399999999999) 0
-    ∷ read (deleteAt 86400000000000) 3
+    ∷ read (deleteAt 86399999999999 5) 0
+    ∷ read (deleteAt 86400000000000 5) 3
     -- 3: price 2,000,000,000 passes, 2,000,000,001: 5
-    ∷ read (addAt 2000000000) 0
-    ∷ read (addAt 2000000001) 5
+    ∷ read (add 5 66 300 2000000000) 0
+    ∷ read (add 5 66 300 2000000001) 5
+    -- 4: A of 300, E 100, X 50: 150 remain, and the numbers of the slot
+    ∷ run (register ∷ five ∷ []) 0 (bought 300 300) listed (holding 5 0x000186A00000012C 0 0x0001424E53445100)
+    ∷ run fourth 0 (bought 50 150) listed fourthBook
+    -- 5: then E 151: 11; E 150 instead: gone
+    ∷ run (fourth ++ (execute 5 151 ∷ [])) 11 (replicate 10 0) listed fourthBook
+    ∷ run (fourth ++ (execute 5 150 ∷ [])) 0 (bought 150 0) listed empty
+    -- 6: U with new equal to original: 9
+    ∷ run (fourth ++ (replace 5 5 10 100000 ∷ [])) 9 (replicate 10 0) listed fourthBook
+    -- 7: D, then A with the same reference: a new life
+    ∷ run (fourth ++ (deleteAt 0 5 ∷ [])) 0 (bought 150 0) listed empty
+    ∷ run (fourth ++ (deleteAt 0 5 ∷ five ∷ [])) 0 (bought 300 300) listed (holding 5 0x000186A00000012C 0 0x0001424E53445100)
+    -- 8: two sells of 4,294,967,295 at one price
+    ∷ run (register ∷ add 5 83 4294967295 100000 ∷ add 6 83 4294967295 100000 ∷ []) 0
+    (1 ∷ 83 ∷ 100000 ∷ 4294967295 ∷ 4294967295 ∷ replicate 5 0) listed
+    (holdingTwo 5 0x000186A0FFFFFFFF 0 0x0001534E53445100 6 0x000186A0FFFFFFFF 0 0x0001534E53445100)
+    -- 10: book lengths 257 and 16,448 pass; 0, 256, 258 and 16,705: 14
+    ∷ shape 2 257 0 1
+    ∷ shape 2 16448 0 1
+    ∷ shape 2 0 14 14
+    ∷ shape 2 256 14 14
+    ∷ shape 2 258 14 14
+    ∷ shape 2 16705 14 14
     ∷ []

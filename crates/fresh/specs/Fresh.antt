@@ -14,6 +14,11 @@ use Rattle.fresh.specs.declared.Made.the-variants.{Fresh, Refused}
 unfoldable pub goodShapes : List ℕ → List ℕ → Bool
 goodShapes d b = goodLength (length d) && ltb 0 (wordsOf (length b))
 
+-- 01's number of what making tables fresh came to
+abbrev pub madeNumber : Made → ℕ
+madeNumber Fresh = 0
+madeNumber (Refused r) = r .number
+
 unfoldable pub madeOf : List ℕ → List ℕ → Made
 madeOf d b = cond (goodShapes d b) Fresh (Refused (record { number = 14 }))
 

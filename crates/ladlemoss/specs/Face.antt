@@ -2,16 +2,9 @@
 use Prim.Native.Nat.{ℕ}
 use mathlib.Core.Path.{_≡_}
 use mathlib.Core.List.{List}
-use Rattle.fresh.specs.declared.Made.{Made}
-use Rattle.fresh.specs.declared.Made.the-variants.{Fresh, Refused}
-use Rattle.fresh.specs.Fresh.{madeOf, freshOf}
+use Rattle.fresh.specs.Fresh.{madeNumber, madeOf, freshOf}
 use Rattle.apply.specs.Apply.{After}
 use Rattle.outcomes.specs.Outcomes.{numberOf, rowOf, orderRow}
-
--- 01's number of what making tables fresh came to
-abbrev pub madeNumber : Made → ℕ
-madeNumber Fresh = 0
-madeNumber (Refused r) = r .number
 
 -- the number r, and the tables d and b became d′ and b′
 pub record Freshens (d b : List ℕ) (r : ℕ) (d′ b′ : List ℕ) : Type 0 where
