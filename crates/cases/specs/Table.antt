@@ -1,7 +1,9 @@
 -- 01's starred cases ('Cases by the book'), one row a case or a part of one: what is lent, and what 01 says of the answer and of
 -- the tables. Hold.antt proves every row. Assumes nothing.
 use Prim.Native.Nat.{ℕ, zero, suc, _/_, _%_}
+use mathlib.Core.Bool.{cond}
 use mathlib.Core.List.{List, [], _∷_, _++_}
+use lib.Dec.{eqb}
 use lib.ListN.{replicate}
 
 pub data Case : Type 0 where
@@ -57,6 +59,11 @@ five = add 5 66 300 100000
 abbrev pub fourth : List (List ℕ)
 fourth = register ∷ five ∷ execute 5 100 ∷ cancel 5 50 ∷ []
 
+-- buys of 300 at 100000 with the references n down to 1
+abbrev pub fill : ℕ → List (List ℕ)
+fill zero = []
+fill (suc n) = add (suc n) 66 300 100000 ∷ fill n
+
 -- a directory with ZVZZT at locate 1
 abbrev pub listed : List ℕ
 listed = 0 ∷ ZVZZT ∷ []
@@ -70,6 +77,17 @@ holding n0 n1 n2 n3 = 1 ∷ n0 ∷ n1 ∷ n2 ∷ n3 ∷ replicate 252 0
 
 abbrev pub holdingTwo : ℕ → ℕ → ℕ → ℕ → ℕ → ℕ → ℕ → ℕ → List ℕ
 holdingTwo n0 n1 n2 n3 p0 p1 p2 p3 = 3 ∷ n0 ∷ n1 ∷ n2 ∷ n3 ∷ p0 ∷ p1 ∷ p2 ∷ p3 ∷ replicate 248 0
+
+-- all 64 live with the orders of `fill`, but new in the place of old
+abbrev pub rows : ℕ → ℕ → ℕ → List ℕ
+rows old new zero = []
+rows old new (suc n) = cond (eqb (suc n) old) new (suc n) ∷ 0x000186A00000012C ∷ 0 ∷ 0x0001424E53445100 ∷ rows old new n
+
+abbrev pub filledBut : ℕ → ℕ → List ℕ
+filledBut old new = 0xFFFFFFFFFFFFFFFF ∷ rows old new 64
+
+abbrev pub filled : List ℕ
+filled = filledBut 0 0
 
 -- of a buy at 100000 at locate 1: shares taken or put, and what then remains
 abbrev pub bought : ℕ → ℕ → List ℕ
@@ -106,6 +124,11 @@ table =
     ∷ run (register ∷ add 5 83 4294967295 100000 ∷ add 6 83 4294967295 100000 ∷ []) 0
     (1 ∷ 83 ∷ 100000 ∷ 4294967295 ∷ 4294967295 ∷ replicate 5 0) listed
     (holdingTwo 5 0x000186A0FFFFFFFF 0 0x0001534E53445100 6 0x000186A0FFFFFFFF 0 0x0001534E53445100)
+    -- 9: 64 live of 64: A gets 12, U is accepted; D, then A: accepted in the freed slot
+    ∷ run (register ∷ fill 64 ++ (add 65 66 300 100000 ∷ [])) 12 (replicate 10 0) listed filled
+    ∷ run (register ∷ fill 64 ++ (replace 30 65 300 100000 ∷ [])) 0
+    (1 ∷ 66 ∷ 100000 ∷ 300 ∷ 0 ∷ 1 ∷ 66 ∷ 100000 ∷ 300 ∷ 300 ∷ []) listed (filledBut 30 65)
+    ∷ run (register ∷ fill 64 ++ (deleteAt 0 30 ∷ add 65 66 300 100000 ∷ [])) 0 (bought 300 300) listed (filledBut 30 65)
     -- 10: book lengths 257 and 16,448 pass; 0, 256, 258 and 16,705: 14
     ∷ shape 2 257 0 1
     ∷ shape 2 16448 0 1

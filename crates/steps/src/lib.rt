@@ -80,14 +80,8 @@ fn order_executed(book: &mut [u64], k: usize, m: OrderExecuted) -> Step
     let head = m.head;
     let locate = head.stock_locate;
     let reference = m.order_reference_number;
-    take::take(
-        book,
-        k,
-        reference,
-        locate,
-        m.executed_shares,
-        Taking::Executed,
-    )
+    let executed = m.executed_shares;
+    take::take(book, k, reference, locate, executed, Taking::Executed)
 }
 
 // C: its execution price never moves the order's level.
@@ -98,14 +92,8 @@ fn order_executed_with_price(book: &mut [u64], k: usize, m: OrderExecutedWithPri
     let head = m.head;
     let locate = head.stock_locate;
     let reference = m.order_reference_number;
-    take::take(
-        book,
-        k,
-        reference,
-        locate,
-        m.executed_shares,
-        Taking::Executed,
-    )
+    let printed = m.executed_shares;
+    take::take(book, k, reference, locate, printed, Taking::Executed)
 }
 
 fn order_cancel(book: &mut [u64], k: usize, m: OrderCancel) -> Step
@@ -115,14 +103,8 @@ fn order_cancel(book: &mut [u64], k: usize, m: OrderCancel) -> Step
     let head = m.head;
     let locate = head.stock_locate;
     let reference = m.order_reference_number;
-    take::take(
-        book,
-        k,
-        reference,
-        locate,
-        m.cancelled_shares,
-        Taking::Cancelled,
-    )
+    let cancelled = m.cancelled_shares;
+    take::take(book, k, reference, locate, cancelled, Taking::Cancelled)
 }
 
 fn order_delete(book: &mut [u64], k: usize, m: OrderDelete) -> Step
