@@ -2,16 +2,13 @@
 -- nothing, and what an accepted one touches. Exactly.antt and Touched.antt prove it of `applied`. Assumes nothing.
 use mathlib.Core.Path.{_≡_}
 use mathlib.Core.Logic.{_↔_, _⊎_, _≢_}
-use mathlib.Core.Bool.{true}
 use mathlib.Core.List.{List}
-use Prim.Native.Nat.{ℕ, _+_, _*_, _≤_, _<_}
+use Prim.Native.Nat.{ℕ, _*_, _≤_, _<_}
 use lib.ListN.{length, getD}
-use Rattle.kinds.specs.declared.Slot.{Slot}
 use Rattle.messages.specs.declared.Message.{Message}
-use Rattle.messages.specs.declared.Refusal.{Refusal}
 use Rattle.messages.specs.declared.Answer.the-variants.{Good}
-use Rattle.book.specs.declared.Found.the-variants.{At, Nothing}
-use Rattle.book.specs.Book.{live, numberAt, find, lowestFree, clearSlot, wordsOf}
+use Rattle.book.specs.declared.Found.the-variants.{At}
+use Rattle.book.specs.Book.{live, numberAt, lowestFree, clearSlot}
 use Rattle.orders.specs.declared.Order.{Order}
 use Rattle.orders.specs.declared.Held.the-variants.{Sound, Unsound}
 use Rattle.orders.specs.Order.{remaining}
@@ -147,6 +144,15 @@ Own b k (close r l) t = Lowest b k r t
 Own b k (replace original new l n p) t =
     Lowest b k original t ⊎ ((s : ℕ) × Lowest b k original s × (lowestFree (clearSlot b k s) k ≡ At (record { 0 = t })))
 Own b k nothing t = ⊥
+
+-- the reference r is one that the message names
+abbrev pub Names : Asked → ℕ → Type 0
+Names (register l symbol) r = ⊥
+Names (start o symbol) r = r ≡ o .reference .0
+Names (take how named l n) r = r ≡ named
+Names (close named l) r = r ≡ named
+Names (replace original new l n p) r = (r ≡ original) ⊎ (r ≡ new)
+Names nothing r = ⊥
 
 -- the directory's number i is the one that the message is about
 abbrev pub Entry : Asked → ℕ → Type 0

@@ -1,2 +1,2 @@
-// What reading a message promises beyond its contract: each refusal is given exactly when the paper says so, an accepted
-// message's numbers are its fields, and no two answers are allowed for the same bytes. It holds no code: specs/ has the theorems.
+// What applying a message promises beyond its contract: each number is given exactly when the paper says so, a refused call changes
+// nothing and no call changes more than its message is about, and no two ends of a call are allowed. It holds no code: specs/ has the theorems.
