@@ -6,10 +6,10 @@ ghost use Prim.Native.Nat.{ℕ, _+_, _*_, _^_, _≤_, _<_};
 ghost use lib.ListN.{length};
 ghost use Rattle.laws.specs.Bit.{bit, clearBit, setBit};
 ghost use Rattle.laws.specs.Least.{least};
-ghost use Rattle.book.specs.Book.{clearSlot, find, live, lowestFree, numberAt, putSlot, wordsOf};
+ghost use Rattle.book.specs.Book.{clearSlot, find, lowestFree, numberAt, putSlot, wordsOf};
 ghost use Rattle.book.specs.Eights.{NoneOfEight};
 ghost use Rattle.book.specs.Shape.{Sized};
-ghost use Rattle.book.specs.Words.{inWord};
+ghost use Rattle.book.specs.Words.{inWord, isZero};
 use kinds::Reference;
 use kinds::Slot;
 
@@ -71,14 +71,6 @@ fn without_bit(w: u64, i: usize) -> u64
     ensures { λ r. ⌜ r ≡ clearBit w i ⌝ }
 {
     w - bit_of(w, i) * only_bit(i)
-}
-
-// A slot's bit: 1 live, 0 free.
-fn live_bit(book: &[u64], k: usize, s: usize) -> u64
-    requires { ⌜ Sized (now book) k × (s < 64 * k) ⌝ }
-    ensures { λ r. ⌜ r ≡ live (now (book .entry)) s ⌝ }
-{
-    bit_of(book[s / 64], s % 64)
 }
 
 // ---- where an order is, and which slot is free
@@ -194,18 +186,34 @@ pub fn find(book: &[u64], k: usize, reference: Reference) -> Found
     Found::Nothing
 }
 
-// The lowest free slot, tried slot by slot.
+// The lowest free slot of a map number, tried slot by slot; 64 where all are live.
+fn free_in(w: u64) -> usize
+    ensures { λ r. ⌜ r ≡ least (isZero w) 64 ⌝ }
+{
+    let mut rest = w;
+    let mut i: usize = 0;
+    while i < 64 {
+        if rest % 2 == 0 {
+            return i;
+        }
+        rest = rest / 2;
+        i += 1;
+    }
+    64
+}
+
+// The lowest free slot.
 pub fn lowest_free(book: &[u64], k: usize) -> Found
     requires { ⌜ Sized (now book) k ⌝ }
     ensures { λ r. ⌜ r ≡ lowestFree (now (book .entry)) k ⌝ }
 {
-    let n = 64 * k;
-    let mut s: usize = 0;
-    while s < n {
-        if live_bit(book, k, s) == 0 {
-            return Found::At(Slot(s));
+    let mut j: usize = 0;
+    while j < k {
+        let i = free_in(book[j]);
+        if i < 64 {
+            return Found::At(Slot(64 * j + i));
         }
-        s += 1;
+        j += 1;
     }
     Found::Nothing
 }
