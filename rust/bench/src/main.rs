@@ -1,54 +1,47 @@
-//! Measures the product's `read` against a Rust reader written for speed.
+//! Measures the product's `read` and `apply` against Rust written for speed.
 //!
-//! `bench [R]`: R rounds of each reader for each workload.
+//! `bench [read|apply] [R]`: one of the tables or both; R rounds of each call for each workload.
 
+mod apply;
+mod desk;
 mod measure;
+mod read;
+mod rounds;
+mod stretch;
 mod workload;
 
-use measure::measure;
 use std::process::ExitCode;
-use workload::{workloads, MESSAGES};
-
-const ROUNDS: usize = 61;
 
 fn main() -> ExitCode {
-    let rounds = match std::env::args().nth(1).map(|word| word.parse()) {
-        None => ROUNDS,
-        Some(Ok(rounds)) if rounds > 0 => rounds,
-        Some(_) => {
-            eprintln!("usage: bench [rounds]");
-            return ExitCode::from(2);
-        }
+    let mut words = std::env::args().skip(1).peekable();
+    let only = words.next_if(|word| word == "read" || word == "apply");
+    let rounds = match words.next().map(|word| word.parse()) {
+        None => None,
+        Some(Ok(rounds)) if rounds > 0 => Some(rounds),
+        Some(_) => return usage(),
     };
-    heading(rounds);
-    for work in workloads() {
-        let readers = (face::read, fast::read_numbers, fast::read_numbers_by_enum);
-        let Some([product, rust, by_enum]) = measure(&work, rounds, readers) else {
-            println!("{:<18} the readers differ", work.name);
-            return ExitCode::FAILURE;
-        };
-        let ratio = product / rust;
-        println!(
-            "{:<18} {product:>10.2} {rust:>8.2} {ratio:>6.2} {by_enum:>8.2} {:>6.2}",
-            work.name,
-            product / by_enum
-        );
+    if words.next().is_some() {
+        return usage();
     }
-    ExitCode::SUCCESS
+    let wanted = |name| only.as_deref().is_none_or(|only| only == name);
+    let mut same = true;
+    if wanted("read") {
+        same &= read::table(rounds);
+    }
+    if only.is_none() {
+        println!();
+    }
+    if wanted("apply") {
+        same &= apply::table(rounds);
+    }
+    if same {
+        ExitCode::SUCCESS
+    } else {
+        ExitCode::FAILURE
+    }
 }
 
-fn heading(rounds: usize) {
-    println!("One call per message: its bytes in, the number and all 18 values out.");
-    println!("product: ladlemoss_read of the static library, by its C call");
-    println!("Rust:    read_numbers of crate fast: a jump by type, from each struct to the values");
-    println!("by enum: the same, but by way of the typed enum of all messages");
-    println!("Rust is not inlined; release profile: opt-level 3, thin LTO, no CPU flags.");
-    println!("{MESSAGES} messages a workload, in one buffer, random, with a fixed seed;");
-    println!("the readers in turn, {rounds} rounds each, the median in ns per message;");
-    println!("answers compared throughout; ratio: product / Rust, product / by enum.");
-    println!();
-    println!(
-        "{:<18} {:>10} {:>8} {:>6} {:>8} {:>6}",
-        "workload", "product", "Rust", "ratio", "by enum", "ratio"
-    );
+fn usage() -> ExitCode {
+    eprintln!("usage: bench [read|apply] [rounds]");
+    ExitCode::from(2)
 }

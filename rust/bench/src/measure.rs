@@ -33,7 +33,7 @@ pub fn measure(
 }
 
 fn same_answers(work: &Workload, one: &impl Reader, two: &impl Reader) -> bool {
-    work.messages().all(|message| {
+    work.messages.iter().all(|message| {
         let (mut ours, mut theirs) = ([1; 18], [2; 18]);
         one(message, &mut ours) == two(message, &mut theirs) && ours == theirs
     })
@@ -44,7 +44,7 @@ fn round(work: &Workload, reader: &impl Reader) -> (f64, u64) {
     let mut sum = 0u64;
     let mut out = [0; 18];
     let start = Instant::now();
-    for message in work.messages() {
+    for message in work.messages.iter() {
         let number = reader(message, &mut out);
         sum = sum.rotate_left(1) ^ u64::from(number) ^ out[3] ^ out[4];
     }
@@ -52,7 +52,7 @@ fn round(work: &Workload, reader: &impl Reader) -> (f64, u64) {
     (time.as_nanos() as f64 / MESSAGES as f64, sum)
 }
 
-fn median(mut times: Vec<f64>) -> f64 {
+pub fn median(mut times: Vec<f64>) -> f64 {
     times.sort_by(f64::total_cmp);
     times[times.len() / 2]
 }

@@ -21,25 +21,40 @@ const DAY: [(u8, u64); 8] = [
 ];
 
 /// Messages one after the other in one buffer.
-pub struct Workload {
-    pub name: String,
+pub struct Messages {
     bytes: Vec<u8>,
     parts: Vec<Range<usize>>,
 }
 
-impl Workload {
-    fn new(name: String, mut next: impl FnMut() -> Vec<u8>) -> Self {
+impl Messages {
+    pub fn new(count: usize, mut next: impl FnMut() -> Vec<u8>) -> Self {
         let (mut bytes, mut parts) = (vec![], vec![]);
-        for _ in 0..MESSAGES {
+        for _ in 0..count {
             let start = bytes.len();
             bytes.extend(next());
             parts.push(start..bytes.len());
         }
-        Workload { name, bytes, parts }
+        Messages { bytes, parts }
     }
 
-    pub fn messages(&self) -> impl Iterator<Item = &[u8]> {
+    pub fn count(&self) -> usize {
+        self.parts.len()
+    }
+
+    pub fn iter(&self) -> impl Iterator<Item = &[u8]> {
         self.parts.iter().map(|part| &self.bytes[part.clone()])
+    }
+}
+
+pub struct Workload {
+    pub name: String,
+    pub messages: Messages,
+}
+
+impl Workload {
+    fn new(name: String, next: impl FnMut() -> Vec<u8>) -> Self {
+        let messages = Messages::new(MESSAGES, next);
+        Workload { name, messages }
     }
 }
 
@@ -53,14 +68,14 @@ pub fn workloads() -> impl Iterator<Item = Workload> {
 fn day() -> Workload {
     let mut random = Random::new(SEED);
     Workload::new("mix of a day".into(), || {
-        let layout = Layout::of(drawn(random.below(100))).expect("one of the 23");
+        let layout = Layout::of(drawn(&DAY, random.below(100))).expect("one of the 23");
         usual(layout, &mut random)
     })
 }
 
 /// The type that a number below 100 falls to.
-fn drawn(mut lot: u64) -> u8 {
-    for (message_type, share) in DAY {
+pub fn drawn(mix: &[(u8, u64)], mut lot: u64) -> u8 {
+    for &(message_type, share) in mix {
         if lot < share {
             return message_type;
         }
@@ -89,7 +104,7 @@ fn refused(number: u8) -> Workload {
 }
 
 /// A well-formed message whose texts look like symbols: 1 to 5 letters, mostly 3 or 4.
-fn usual(layout: &Layout, random: &mut Random) -> Vec<u8> {
+pub fn usual(layout: &Layout, random: &mut Random) -> Vec<u8> {
     let mut message = random_message(layout, random);
     for field in layout.fields().filter(|field| field.rule == Rule::Text) {
         let letters = *random.one_of(&[1, 2, 3, 3, 3, 4, 4, 4, 4, 5]);
@@ -109,7 +124,7 @@ mod tests {
     #[test]
     fn every_lot_is_drawn_by_share() {
         for (message_type, share) in DAY {
-            let lots = (0..100).filter(|&lot| drawn(lot) == message_type);
+            let lots = (0..100).filter(|&lot| drawn(&DAY, lot) == message_type);
             assert_eq!(lots.count() as u64, share);
         }
     }

@@ -1,6 +1,6 @@
 //! Random and changed messages, the same in every run.
 
-use crate::tally::Tally;
+use crate::tally::{Checker, Tally};
 use samples::{random_message, spoil, Layout, Random, LAYOUTS};
 
 const SEED: u64 = 0x4C61_646C_656D_6F73;

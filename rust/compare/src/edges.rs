@@ -1,17 +1,17 @@
 //! Every edge of every field, every byte's every value, and faults put together.
 
-use crate::tally::Tally;
+use crate::tally::Checker;
 use samples::{faults_of, sample, Fault, Field, Rule, DAY, LAYOUTS, MAXIMUM_PRICE};
 
 /// Each field at its edges, with each bit alone and each bit alone missing.
-pub fn every_field(tally: &mut Tally) {
-    tally.source("edges of every field");
+pub fn every_field(checker: &mut impl Checker) {
+    checker.source("edges of every field");
     for layout in &LAYOUTS {
         for field in layout.fields() {
             let mut message = sample(layout);
             for number in edges(field) {
                 field.set(&mut message, number);
-                tally.check(&message);
+                checker.check(&message);
             }
         }
     }
@@ -32,29 +32,29 @@ fn edges(field: &Field) -> Vec<u64> {
 }
 
 /// Every byte of every message, the type included, set to every value.
-pub fn every_byte(tally: &mut Tally) {
-    tally.source("every byte at every value");
+pub fn every_byte(checker: &mut impl Checker) {
+    checker.source("every byte at every value");
     for layout in &LAYOUTS {
         for place in 0..layout.length {
             let mut message = sample(layout);
             for value in 0..=255 {
                 message[place] = value;
-                tally.check(&message);
+                checker.check(&message);
             }
         }
     }
 }
 
 /// One, two and three faults in one message, for the order of checks.
-pub fn faults_together(tally: &mut Tally) {
-    tally.source("one, two and three faults in one message");
+pub fn faults_together(checker: &mut impl Checker) {
+    checker.source("one, two and three faults in one message");
     for layout in &LAYOUTS {
         let whole = sample(layout);
         let faults = faults_of(layout);
         for (i, first) in faults.iter().enumerate() {
             for (j, second) in faults.iter().enumerate().skip(i) {
                 for third in &faults[j..] {
-                    put_all(tally, &whole, [first, second, third]);
+                    put_all(checker, &whole, [first, second, third]);
                 }
             }
         }
@@ -62,10 +62,10 @@ pub fn faults_together(tally: &mut Tally) {
 }
 
 /// The same fault twice is one fault, so fewer than three come about too.
-fn put_all(tally: &mut Tally, whole: &[u8], faults: [&Fault; 3]) {
+fn put_all(checker: &mut impl Checker, whole: &[u8], faults: [&Fault; 3]) {
     let mut message = whole.to_vec();
     for fault in faults {
         fault.put(&mut message);
     }
-    tally.check(&message);
+    checker.check(&message);
 }

@@ -1,5 +1,6 @@
 //! Memory with unmapped pages on both sides, so that a read or write beyond a part of it crashes.
 
+use samples::Random;
 use std::ffi::c_void;
 use std::ptr::null_mut;
 
@@ -38,6 +39,13 @@ pub enum Edge {
     Back,
 }
 
+impl Edge {
+    /// One of the two, by chance.
+    pub fn any(random: &mut Random) -> Self {
+        *random.one_of(&[Edge::Front, Edge::Back])
+    }
+}
+
 impl Guarded {
     /// Room for at least that many bytes.
     pub fn new(room: usize) -> Self {
@@ -74,11 +82,17 @@ impl Guarded {
         unsafe { std::slice::from_raw_parts_mut(self.start.add(offset), len) }
     }
 
-    /// Room for the 18 numbers at one of the edges.
-    pub fn numbers(&mut self, edge: Edge) -> &mut [u64; 18] {
-        let part = self.part(size_of::<[u64; 18]>(), edge);
+    /// That many numbers at one of the edges.
+    pub fn slice(&mut self, len: usize, edge: Edge) -> &mut [u64] {
+        let part = self.part(len * size_of::<u64>(), edge);
         // SAFETY: both edges lie on a page, so the part is aligned; any bytes are numbers.
-        unsafe { &mut *part.as_mut_ptr().cast() }
+        unsafe { std::slice::from_raw_parts_mut(part.as_mut_ptr().cast(), len) }
+    }
+
+    /// The same for a count that is always the same.
+    pub fn numbers<const N: usize>(&mut self, edge: Edge) -> &mut [u64; N] {
+        let part = self.slice(N, edge);
+        part.try_into().expect("that many numbers")
     }
 }
 
@@ -97,7 +111,13 @@ mod tests {
             assert_eq!(back.as_ptr() as usize + len, start + PAGE);
             back.fill(1);
         }
-        guarded.numbers(Edge::Back)[17] = u64::MAX;
+        guarded.numbers::<18>(Edge::Back)[17] = u64::MAX;
         assert_eq!(guarded.part(8, Edge::Back), [0xFF; 8]);
+        for len in [0, 1, 257, PAGE / 8] {
+            assert_eq!(guarded.slice(len, Edge::Front).as_ptr() as usize, start);
+            let back = guarded.slice(len, Edge::Back);
+            assert_eq!(back.as_ptr() as usize + 8 * len, start + PAGE);
+            back.fill(2);
+        }
     }
 }

@@ -1,13 +1,13 @@
 //! Every length of every first byte, with several fillings.
 
-use crate::tally::Tally;
+use crate::tally::Checker;
 use samples::{sample, Layout, LAYOUTS};
 
 /// Up to more than the longest message.
 const LENGTHS: std::ops::RangeInclusive<usize> = 0..=64;
 
-pub fn every_length(tally: &mut Tally) {
-    tally.source("lengths 0 to 64 of every first byte");
+pub fn every_length(checker: &mut impl Checker) {
+    checker.source("lengths 0 to 64 of every first byte");
     for first in 0..=255 {
         // A byte that is no type gets an Add Order's body.
         let layout = Layout::of(first).or(Layout::of(b'A'));
@@ -19,23 +19,23 @@ pub fn every_length(tally: &mut Tally) {
                 if let Some(byte) = message.first_mut() {
                     *byte = first;
                 }
-                tally.check(&message);
+                checker.check(&message);
             }
             let mut message = body.clone();
             message.resize(length, b'A');
-            tally.check(&message);
+            checker.check(&message);
         }
     }
 }
 
 /// Lengths that are right when cut to 8 or 16 bits.
-pub fn far_lengths(tally: &mut Tally) {
-    tally.source("right lengths plus 2^8 and 2^16");
+pub fn far_lengths(checker: &mut impl Checker) {
+    checker.source("right lengths plus 2^8 and 2^16");
     for layout in &LAYOUTS {
         for more in [0x100, 0x1_0000] {
             let mut message = sample(layout);
             message.resize(layout.length + more, b' ');
-            tally.check(&message);
+            checker.check(&message);
         }
     }
 }

@@ -1,14 +1,20 @@
 //! Asks both readers about an input and keeps the count of what was met.
 
 use crate::guard::{Edge, Guarded};
+use crate::report::{hex, shown, SHOWN};
 
 /// No input is longer than this.
 pub const LONGEST: usize = 0x1_0100;
 
-/// Mismatches shown in full.
-const SHOWN: u64 = 10;
-
 type Numbers = (u8, [u64; 18]);
+
+/// Holds both programs to each other, one message after the other.
+pub trait Checker {
+    /// The messages from here on are of this source.
+    fn source(&mut self, name: &'static str);
+    /// Compares what both programs make of the message.
+    fn check(&mut self, message: &[u8]);
+}
 
 /// The counts of the whole run, and the memory that inputs and answers are placed in.
 pub struct Tally {
@@ -23,27 +29,14 @@ pub struct Tally {
     mismatches: u64,
 }
 
-impl Tally {
-    pub fn new() -> Self {
-        Tally {
-            input: Guarded::new(LONGEST),
-            out: Guarded::new(size_of::<[u64; 18]>()),
-            sources: vec![],
-            met: [0; 7],
-            accepted: [false; 256],
-            mismatches: 0,
-        }
-    }
-
-    /// The inputs from here on are of this source.
-    pub fn source(&mut self, name: &'static str) {
+impl Checker for Tally {
+    fn source(&mut self, name: &'static str) {
         // Said beforehand, since a read out of bounds ends the program.
         eprintln!("comparing: {name}");
         self.sources.push((name, 0));
     }
 
-    /// Compares the product's answer with the second program's.
-    pub fn check(&mut self, message: &[u8]) {
+    fn check(&mut self, message: &[u8]) {
         let expected = second::numbers(&second::read(message));
         for edge in [Edge::Back, Edge::Front] {
             let (answer, kept) = self.product(message, edge);
@@ -55,6 +48,19 @@ impl Tally {
         self.met[usize::from(expected.0)] += 1;
         self.accepted[usize::from(message.first().copied().unwrap_or(0))] |= expected.0 == 0;
         self.sources.last_mut().expect("a source is named first").1 += 1;
+    }
+}
+
+impl Tally {
+    pub fn new() -> Self {
+        Tally {
+            input: Guarded::new(LONGEST),
+            out: Guarded::new(size_of::<[u64; 18]>()),
+            sources: vec![],
+            met: [0; 7],
+            accepted: [false; 256],
+            mismatches: 0,
+        }
     }
 
     /// The product's answer, and whether it left the input as it was.
@@ -86,8 +92,8 @@ impl Tally {
             message.len()
         );
         println!("  input    {}", hex(&message[..message.len().min(64)]));
-        println!("  expected {}", shown(&expected));
-        println!("  product  {}", shown(&got));
+        println!("  expected {} {}", expected.0, shown(&expected.1));
+        println!("  product  {} {}", got.0, shown(&got.1));
         if !kept {
             println!("  the product has changed the input");
         }
@@ -110,21 +116,4 @@ impl Tally {
         println!("mismatches: {}", self.mismatches);
         self.mismatches == 0 && types == 23 && self.met.iter().all(|&count| count > 0)
     }
-}
-
-fn hex(bytes: &[u8]) -> String {
-    bytes.iter().map(|byte| format!("{byte:02X}")).collect()
-}
-
-/// The number, then the values up to the last that is not 0.
-fn shown((number, out): &Numbers) -> String {
-    let used = out
-        .iter()
-        .rposition(|&value| value != 0)
-        .map_or(0, |last| last + 1);
-    let values: Vec<String> = out[..used]
-        .iter()
-        .map(|value| format!("{value:X}"))
-        .collect();
-    format!("{number} [{}]", values.join(" "))
 }

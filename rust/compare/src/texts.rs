@@ -1,6 +1,6 @@
 //! The text fields: spaces, padding and the bytes next to the allowed ones, at every place.
 
-use crate::tally::Tally;
+use crate::tally::{Checker, Tally};
 use samples::{sample, Field, Layout, Rule, LAYOUTS};
 
 /// The edges of the allowed bytes, which the rule tells apart.

@@ -6,9 +6,17 @@ pub const TIME: u8 = 3;
 pub const FIELD: u8 = 4;
 pub const PRICE: u8 = 5;
 pub const SHARES: u8 = 6;
+pub const STOCK: u8 = 7;
+pub const CONFLICT: u8 = 8;
+pub const DUPLICATE: u8 = 9;
+pub const NO_ORDER: u8 = 10;
+pub const OVER: u8 = 11;
+pub const FULL: u8 = 12;
+pub const BOOK: u8 = 13;
+pub const SHAPE: u8 = 14;
 
 const DAY: u64 = 86_400_000_000_000;
-const MAXIMUM_PRICE: u32 = 2_000_000_000;
+pub const MAXIMUM_PRICE: u32 = 2_000_000_000;
 const ONES: u64 = 0x0101_0101_0101_0101;
 const TOPS: u64 = 0x80 * ONES;
 

@@ -1,15 +1,21 @@
-//! A reader written for speed, the measure that the product is held against.
+//! The calls `read` and `apply` written for speed, the measure that the product is held against.
 //!
 //! The same answers as the second program's reader: fixed offsets after one length test, whole
 //! words loaded at once, text checked eight bytes at a time. It knows nothing of the product.
 
+mod apply;
+mod book;
 mod checks;
+mod directory;
+mod life;
 mod message;
 mod numbers;
 mod orders;
+mod steps;
 mod stock;
 mod trades;
 
+pub use apply::{apply_numbers, apply_numbers_by_eights};
 pub use message::Message;
 pub use numbers::{read_numbers, read_numbers_by_enum};
 pub use orders::*;

@@ -1,17 +1,26 @@
-//! Messages to try the readers with: well-formed ones, and ones spoiled in a known way.
+//! Messages to try the readers with: well-formed ones, ones spoiled in a known way, and flows of
+//! them that fit together; and tables to apply them to, sound and damaged ones.
 //!
 //! Its table of layouts takes the offsets as document 000 prints them, while the second program's
 //! reader takes one field after the other, so that each is a check of the other. It reads nothing.
 
+mod damage;
 mod faults;
+mod flow;
 mod layouts;
 mod make;
 mod random;
+mod slots;
+mod twist;
 
+pub use damage::{damaged_book, damaged_directory, harm};
 pub use faults::{faults_of, spoil, Fault};
+pub use flow::{Flow, Target};
 pub use layouts::LAYOUTS;
-pub use make::{random_message, random_text, sample};
+pub use make::{random_message, random_text, sample, sample_with};
 pub use random::Random;
+pub use slots::{broken_slots, sound_book, targets, FlatBook, SlotNumbers};
+pub use twist::{random_bytes, twist};
 
 /// The first timestamp that is too large.
 pub const DAY: u64 = 0x4E94_914F_0000;
@@ -92,6 +101,11 @@ impl Layout {
         LAYOUTS
             .iter()
             .find(|layout| layout.message_type == message_type)
+    }
+
+    /// The field of that name.
+    pub fn field(&self, name: &str) -> Option<&'static Field> {
+        self.fields().find(|field| field.name == name)
     }
 
     /// What an accepted message of this layout is given out as.

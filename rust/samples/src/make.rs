@@ -24,6 +24,17 @@ pub fn sample(layout: &Layout) -> Vec<u8> {
     message
 }
 
+/// The sample of a type with some fields set by their names.
+pub fn sample_with(message_type: u8, sets: &[(&str, u64)]) -> Vec<u8> {
+    let layout = Layout::of(message_type).expect("one of the 23");
+    let mut message = sample(layout);
+    for (name, number) in sets {
+        let field = layout.field(name).expect("a field of the type");
+        field.set(&mut message, *number);
+    }
+    message
+}
+
 /// A well-formed message with all fields random, the edges of their ranges included.
 pub fn random_message(layout: &Layout, random: &mut Random) -> Vec<u8> {
     let mut message = vec![layout.message_type; layout.length];

@@ -161,7 +161,7 @@ impl<const N: usize> Field for Text<N> {
 }
 
 /// First byte from hex 21 to 7E, then such bytes, then only spaces.
-fn is_text(bytes: &[u8]) -> bool {
+pub(crate) fn is_text(bytes: &[u8]) -> bool {
     let is_visible = |byte: &u8| (0x21..=0x7E).contains(byte);
     let visible = bytes.iter().take_while(|byte| is_visible(byte)).count();
     visible >= 1 && bytes[visible..].iter().all(|&byte| byte == b' ')

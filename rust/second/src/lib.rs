@@ -1,19 +1,30 @@
-//! The independent second program's reader of one TotalView-ITCH 5.0 message.
+//! The independent second program: one TotalView-ITCH 5.0 message read, and applied to the tables.
 //!
 //! Written from the papers alone, to be held against the product: plain and slow, one field after
-//! the other. It knows nothing of directories, books or packets, and nothing of the product.
+//! the other and one slot after the other. It knows nothing of packets, and nothing of the product.
 
+mod applied;
+mod book;
 mod cursor;
+mod directory;
 mod fields;
 mod message;
+mod order;
 mod orders;
+mod steps;
 mod stock;
+mod tables;
 mod trades;
 
+pub use applied::{Applied, Figures, Orders};
+pub use book::{Book, Slot};
+pub use directory::{Directory, Entry};
 pub use fields::{Alpha, Price, Printable, Shares, Side, Text, Timestamp, DAY, MAXIMUM_PRICE};
 pub use message::Message;
+pub use order::{Order, NSDQ};
 pub use orders::*;
 pub use stock::*;
+pub use tables::{apply, fresh, Tables};
 pub use trades::*;
 
 use cursor::Cursor;
@@ -30,6 +41,22 @@ pub const FIELD: u8 = 4;
 pub const PRICE: u8 = 5;
 /// Zero shares.
 pub const SHARES: u8 = 6;
+/// A locate that has no entry; for A and F also an unregistered one.
+pub const STOCK: u8 = 7;
+/// Another symbol is registered, or the order is of another locate.
+pub const CONFLICT: u8 = 8;
+/// The reference of the new order is live.
+pub const DUPLICATE: u8 = 9;
+/// The reference named is not live.
+pub const NO_ORDER: u8 = 10;
+/// More shares than remain.
+pub const OVER: u8 = 11;
+/// No free slot for A or F.
+pub const FULL: u8 = 12;
+/// The slot of the order named is unsound.
+pub const BOOK: u8 = 13;
+/// A table of a length that the paper does not name.
+pub const SHAPE: u8 = 14;
 
 /// What a message is read as.
 #[derive(Clone, Copy, Debug, PartialEq, Eq)]

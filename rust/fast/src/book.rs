@@ -1,0 +1,108 @@
+//! The book: its map, its slots in groups of one map number, the search and the lowest free slot.
+
+/// Four numbers a slot, 64 slots a map number.
+type Group = [[u64; 4]; 64];
+
+/// A lent book of a good length; EIGHTS says how a reference is searched for.
+pub struct Book<'a, const EIGHTS: bool> {
+    map: &'a mut [u64],
+    groups: &'a mut [Group],
+}
+
+/// A slot by its map number and its bit there.
+#[derive(Clone, Copy)]
+pub struct Slot {
+    group: usize,
+    bit: usize,
+}
+
+impl<'a, const EIGHTS: bool> Book<'a, EIGHTS> {
+    /// None if no book has that many numbers.
+    #[inline(always)]
+    pub fn lent(numbers: &'a mut [u64]) -> Option<Self> {
+        let words = numbers.len() / 257;
+        if !numbers.len().is_multiple_of(257) || words == 0 || words > 64 {
+            return None;
+        }
+        let (map, slots) = numbers.split_at_mut(words);
+        let groups = slots.as_chunks_mut::<4>().0.as_chunks_mut::<64>().0;
+        Some(Book { map, groups })
+    }
+
+    /// The lowest live slot that holds the reference.
+    #[inline]
+    pub fn find(&self, reference: u64) -> Option<Slot> {
+        for (group, (&live, slots)) in self.map.iter().zip(&*self.groups).enumerate() {
+            let bit = if EIGHTS && dense(live) {
+                by_eights(live, slots, reference)
+            } else {
+                by_bits(live, slots, reference)
+            };
+            if let Some(bit) = bit {
+                return Some(Slot { group, bit });
+            }
+        }
+        None
+    }
+
+    /// The lowest free slot, tried slot by slot.
+    #[inline]
+    pub fn lowest_free(&self) -> Option<Slot> {
+        for (group, &live) in self.map.iter().enumerate() {
+            let mut rest = live;
+            for bit in 0..64 {
+                if rest & 1 == 0 {
+                    return Some(Slot { group, bit });
+                }
+                rest >>= 1;
+            }
+        }
+        None
+    }
+
+    #[inline(always)]
+    pub fn slot(&mut self, slot: Slot) -> &mut [u64; 4] {
+        &mut self.groups[slot.group][slot.bit]
+    }
+
+    #[inline(always)]
+    pub fn put(&mut self, slot: Slot, numbers: [u64; 4]) {
+        self.map[slot.group] |= 1 << slot.bit;
+        *self.slot(slot) = numbers;
+    }
+
+    #[inline(always)]
+    pub fn clear(&mut self, slot: Slot) {
+        self.map[slot.group] &= !(1 << slot.bit);
+        *self.slot(slot) = [0; 4];
+    }
+}
+
+/// From live slot to live slot.
+#[inline(always)]
+fn by_bits(mut live: u64, slots: &Group, reference: u64) -> Option<usize> {
+    while live != 0 {
+        let bit = live.trailing_zeros() as usize;
+        if slots[bit][0] == reference {
+            return Some(bit);
+        }
+        live &= live - 1;
+    }
+    None
+}
+
+/// Enough live slots that passing over the free ones does not pay.
+#[inline(always)]
+fn dense(live: u64) -> bool {
+    let quarter = live & (live >> 32);
+    quarter & (quarter >> 16) != 0
+}
+
+/// Eight slots at a time, live or not; where one of them holds the reference, slot by slot from there.
+#[inline(always)]
+fn by_eights(live: u64, slots: &Group, reference: u64) -> Option<usize> {
+    let eights = slots.as_chunks::<8>().0;
+    let held = |eight: &[[u64; 4]; 8]| eight.iter().any(|slot| slot[0] == reference);
+    let start = 8 * eights.iter().position(held)?;
+    (start..64).find(|&bit| slots[bit][0] == reference && live >> bit & 1 == 1)
+}
