@@ -59,7 +59,7 @@ pub fn order(book: &[u64], reference: Reference) -> Accounted
     if k == 0 {
         return refuse(14);
     }
-    let found = book::find(book, k, reference);
+    let found = search::find(book, k, reference);
     let Found::At(slot) = found else {
         return refuse(10);
     };

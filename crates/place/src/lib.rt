@@ -30,7 +30,7 @@ pub fn place(directory: &[u64], book: &mut [u64], k: usize, symbol: u64, o: Orde
         return refuse(8);
     }
     let reference = o.reference;
-    let found = book::find(book, k, reference);
+    let found = search::find(book, k, reference);
     if let Found::At(_) = found {
         return refuse(9);
     }

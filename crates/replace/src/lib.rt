@@ -47,7 +47,7 @@ pub fn replace(
     requires { ⌜ Sized (now book) k ⌝ }
     ensures { λ r. ⌜ Stepped (now (book .entry)) k (slotOf (find (now (book .entry)) k (original .0))) (replacing (locate .0) (original .0) (new .0) shares (price .0) (isAt (find (now (book .entry)) k (new .0))) (seenIn (now (book .entry)) k (find (now (book .entry)) k (original .0)))) r (now (book .exit)) ⌝ }
 {
-    let found = book::find(book, k, original);
+    let found = search::find(book, k, original);
     let Found::At(slot) = found else {
         return refuse(10);
     };
@@ -62,7 +62,7 @@ pub fn replace(
     if new.0 == original.0 {
         return refuse(9);
     }
-    let other = book::find(book, k, new);
+    let other = search::find(book, k, new);
     if let Found::At(_) = other {
         return refuse(9);
     }

@@ -45,7 +45,7 @@ pub fn take(
     requires { ⌜ Sized (now book) k ⌝ }
     ensures { λ r. ⌜ Stepped (now (book .entry)) k (slotOf (find (now (book .entry)) k (reference .0))) (taking (takenBy how) (locate .0) n (seenIn (now (book .entry)) k (find (now (book .entry)) k (reference .0)))) r (now (book .exit)) ⌝ }
 {
-    let found = book::find(book, k, reference);
+    let found = search::find(book, k, reference);
     let Found::At(slot) = found else {
         return refuse(10);
     };
@@ -76,7 +76,7 @@ pub fn delete(book: &mut [u64], k: usize, reference: Reference, locate: Locate) 
     requires { ⌜ Sized (now book) k ⌝ }
     ensures { λ r. ⌜ Stepped (now (book .entry)) k (slotOf (find (now (book .entry)) k (reference .0))) (closing (locate .0) (seenIn (now (book .entry)) k (find (now (book .entry)) k (reference .0)))) r (now (book .exit)) ⌝ }
 {
-    let found = book::find(book, k, reference);
+    let found = search::find(book, k, reference);
     let Found::At(slot) = found else {
         return refuse(10);
     };

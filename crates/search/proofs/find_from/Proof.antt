@@ -1,4 +1,4 @@
--- `book::find_from` meets its contract. The loop's invariant: no slot of the map number below t is live and holds `want`.
+-- `search::find_from` meets its contract. The loop's invariant: no slot of the map number below t is live and holds `want`.
 -- The measure is what is left of 64. Assumes nothing.
 use Prim.Native.Nat.{ℕ, _-_, _≤_, _<_}
 use mathlib.Core.Path.{_≡_, sym, _∙_}
@@ -8,9 +8,9 @@ use native.Mathlib.Omega.{arith}
 use borrow.Author.Needs.{needs}
 use borrow.Author.Count.{below-more}
 use Rattle.laws.specs.Bit.{bit-cases}
 use Rattle.book.specs.Words.{inWord, in-dead, in-other, in-yes, first-at, first-none}
-use Rattle.book.proofs.find_from.Statement.{statement}
-use Rattle.book.proofs.find_from.Tie as tie
+use Rattle.search.proofs.find_from.Statement.{statement}
+use Rattle.search.proofs.find_from.Tie as tie
 
 abbrev Inv-loop : tie.InvT-loop
 Inv-loop book k want j i w t₀ t = (t ≤ 64) × ((i : ℕ) → i < t → inWord book k want j i ≡ false)

@@ -1,4 +1,4 @@
--- `book::find_dense` meets its contract. The loop's invariant: i is a multiple of 8, and no slot of the map number below i is live
+-- `search::find_dense` meets its contract. The loop's invariant: i is a multiple of 8, and no slot of the map number below i is live
 -- and holds `want`. The measure is what is left of 64. Assumes nothing.
 use Prim.Native.Nat.{ℕ, _-_, _%_, _≤_, _<_}
 use mathlib.Core.Path.{_≡_}
@@ -6,10 +6,10 @@ use mathlib.Core.Bool.{false}
 use native.Mathlib.Omega.{arith}
 use borrow.Author.Needs.{needs}
 use borrow.Author.Count.{below-none}
 use Rattle.book.specs.Eights.{eight-more}
 use Rattle.book.specs.Words.{inWord, first-none}
-use Rattle.book.proofs.find_dense.Statement.{statement}
-use Rattle.book.proofs.find_dense.Tie as tie
+use Rattle.search.proofs.find_dense.Statement.{statement}
+use Rattle.search.proofs.find_dense.Tie as tie
 
 abbrev Inv-loop : tie.InvT-loop
 Inv-loop book k want j i₀ i = (i ≤ 64) × (i % 8 ≡ 0) × ((t : ℕ) → t < i → inWord book k want j t ≡ false)

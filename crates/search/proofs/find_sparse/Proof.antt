@@ -1,13 +1,13 @@
--- `book::find_sparse` meets its contract. The loop's invariant, `Scan`: m is the map number with the bits taken off that have
+-- `search::find_sparse` meets its contract. The loop's invariant, `Scan`: m is the map number with the bits taken off that have
 -- been looked at, none of which passed. The measure is m. Assumes nothing.
 use native.Mathlib.Omega.{arith}
 use borrow.Author.Needs.{needs}
 use lib.Count.{trailing-le}
 use lib.ListN.{getD}
 use Rattle.book.specs.Scan as scan
 use Rattle.book.specs.Words.{inWord, in-dead, in-other, in-yes}
-use Rattle.book.proofs.find_sparse.Statement.{statement}
-use Rattle.book.proofs.find_sparse.Tie as tie
+use Rattle.search.proofs.find_sparse.Statement.{statement}
+use Rattle.search.proofs.find_sparse.Tie as tie
 
 abbrev Inv-loop : tie.InvT-loop
 Inv-loop book k want j m₀ m = scan.Scan (inWord book k want j) (getD book j 0) m

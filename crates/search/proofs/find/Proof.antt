@@ -1,4 +1,4 @@
--- `book::find` meets its contract. The loop's invariant: no slot of the map numbers below j is live and holds `want`.
+-- `search::find` meets its contract. The loop's invariant: no slot of the map numbers below j is live and holds `want`.
 -- The measure is what is left of the map numbers. Assumes nothing.
 use Prim.Native.Nat.{ℕ, _*_, _-_, _≤_, _<_}
 use mathlib.Core.Path.{_≡_}
@@ -6,11 +6,11 @@ use mathlib.Core.Bool.{false}
 use native.Mathlib.Nat.{not-suc-le-zero}
 use native.Mathlib.Omega.{arith}
 use borrow.Author.Needs.{needs}
 use Rattle.book.specs.Book.{holds}
 use Rattle.book.specs.Finds.{find-none}
 use Rattle.book.specs.Words.{word-at, word-more}
-use Rattle.book.proofs.find.Statement.{statement}
-use Rattle.book.proofs.find.Tie as tie
+use Rattle.search.proofs.find.Statement.{statement}
+use Rattle.search.proofs.find.Tie as tie
 
 abbrev Inv-loop : tie.InvT-loop
 Inv-loop book k want j₀ j = (j ≤ k) × ((i : ℕ) → i < 64 * j → holds book k want i ≡ false)
