@@ -1,11 +1,16 @@
 // The calls that a program in C or Rust links. Each has the contract of the call below it.
 ghost use mathlib.Core.Path.{_≡_};
+ghost use Rattle.accounts.specs.Accounts.{orderAsked};
 ghost use Rattle.apply.specs.Apply.{applied};
-ghost use Rattle.fresh.specs.Fresh.{Comes};
+ghost use Rattle.census.specs.Census.{countAsked};
 ghost use Rattle.ladlemoss.specs.Face.{Answers, Freshens};
+ghost use Rattle.levels.specs.Levels.{bestOf, levelOf, nextOf};
 ghost use Rattle.numbers.specs.Shown.{number, row};
 ghost use Rattle.reader.specs.Read.{answer};
+ghost use Rattle.replies.specs.Replies.{accountNumber, accountRow, countNumber, countRow, levelRow, quoteNumber, quoteRow};
 use fresh::Made;
+use kinds::Locate;
+use kinds::Reference;
 
 // Reads one message: the result is 01's number, and the 18 numbers of its fields are left in out, all 0 for a refusal.
 #[no_mangle]
@@ -41,4 +46,62 @@ pub extern "C" fn ladlemoss_apply(
 {
     let outcome = apply::apply(directory, book, bytes);
     outcomes::write(outcome, out, figures)
+}
+
+// The account of the order with a reference: added, executed, cancelled, remaining, locate, side, price and attribution.
+#[no_mangle]
+pub extern "C" fn ladlemoss_order(book: &[u64], reference: u64, out: &mut [u64; 8]) -> u8
+    ensures { λ r. ⌜ (r ≡ accountNumber (orderAsked (now (book .entry)) reference)) × (now (out .exit) ≡ accountRow (orderAsked (now (book .entry)) reference)) ⌝ }
+{
+    replies::account(accounts::order(book, Reference(reference)), out)
+}
+
+// A level's total and count.
+#[no_mangle]
+pub extern "C" fn ladlemoss_level(
+    book: &[u64],
+    locate: u16,
+    side: u8,
+    price: u32,
+    out: &mut [u64; 2],
+) -> u8
+    ensures { λ r. ⌜ (r ≡ quoteNumber (levelOf (now (book .entry)) locate side price)) × (now (out .exit) ≡ levelRow (levelOf (now (book .entry)) locate side price)) ⌝ }
+{
+    replies::level(
+        levels::questions::level(book, Locate(locate), side, price),
+        out,
+    )
+}
+
+// The best level of a stock's side: 1, price, total and count, or four zeros where there is none.
+#[no_mangle]
+pub extern "C" fn ladlemoss_best(book: &[u64], locate: u16, side: u8, out: &mut [u64; 4]) -> u8
+    ensures { λ r. ⌜ (r ≡ quoteNumber (bestOf (now (book .entry)) locate side)) × (now (out .exit) ≡ quoteRow (bestOf (now (book .entry)) locate side)) ⌝ }
+{
+    replies::quote(levels::questions::best(book, Locate(locate), side), out)
+}
+
+// The next level worse than a price, in the form of the best.
+#[no_mangle]
+pub extern "C" fn ladlemoss_next(
+    book: &[u64],
+    locate: u16,
+    side: u8,
+    price: u32,
+    out: &mut [u64; 4],
+) -> u8
+    ensures { λ r. ⌜ (r ≡ quoteNumber (nextOf (now (book .entry)) locate side price)) × (now (out .exit) ≡ quoteRow (nextOf (now (book .entry)) locate side price)) ⌝ }
+{
+    replies::quote(
+        levels::questions::next(book, Locate(locate), side, price),
+        out,
+    )
+}
+
+// How many slots are live.
+#[no_mangle]
+pub extern "C" fn ladlemoss_live(book: &[u64], out: &mut [u64; 1]) -> u8
+    ensures { λ r. ⌜ (r ≡ countNumber (countAsked (now (book .entry)))) × (now (out .exit) ≡ countRow (countAsked (now (book .entry)))) ⌝ }
+{
+    replies::count(census::live_count(book), out)
 }

@@ -1,0 +1,11 @@
+pub mod Answers
+pub mod Asks
+pub mod Levels
+pub mod Meaning
+pub mod Seen
+pub mod Sweep
+pub mod Tally
+pub mod TotalLaws
+pub mod Totals
+pub mod VisitLaws
+pub mod Visits

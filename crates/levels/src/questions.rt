@@ -1,0 +1,145 @@
+// What the desk may ask of a book: a level, the best level of a stock's side, and the next one worse than a price. Each is one
+// pass, and changes nothing.
+ghost use mathlib.Core.Path.{_≡_};
+ghost use Prim.Native.Nat.{_<_};
+ghost use lib.ListN.{length};
+ghost use Rattle.book.specs.Book.{wordsOf};
+ghost use Rattle.messages.specs.Typed.{sideOf};
+ghost use Rattle.wellformed.specs.WellFormed.{goodSide};
+ghost use Rattle.levels.specs.Levels.{bestOf, checked, levelOf, nextOf, priceAt, standing};
+ghost use Rattle.levels.specs.Asks.{asked};
+use crate::Asked;
+use crate::Level;
+use crate::Pass;
+use crate::Quote;
+use crate::Wanted;
+use crate::scan;
+use crate::steps_to;
+use kinds::Locate;
+use kinds::Side;
+use messages::Refusal;
+
+fn good_side(byte: u8) -> bool
+    ensures { λ r. ⌜ r ≡ goodSide byte ⌝ }
+{
+    if byte == 66 {
+        return true;
+    }
+    byte == 83
+}
+
+fn side_of(byte: u8) -> Side
+    ensures { λ r. ⌜ r ≡ sideOf byte ⌝ }
+{
+    if byte == 66 { Side::Buy } else { Side::Sell }
+}
+
+// The price so many steps from the best one possible.
+fn price_at(side: Side, steps: u64) -> u32
+    requires { ⌜ steps < 4294967296 ⌝ }
+    ensures { λ r. ⌜ r ≡ priceAt side steps ⌝ }
+{
+    match side {
+        Side::Buy => (4294967295 - steps) as u32,
+        Side::Sell => steps as u32,
+    }
+}
+
+fn refuse(n: u8) -> Asked
+    ensures { λ r. ⌜ r ≡ Asked.Refused (record { number = n }) ⌝ }
+{
+    Asked::Refused(Refusal { number: n })
+}
+
+// The pass for a side that was given as a byte: 14, 4 and 13 in this order, or what it saw.
+fn ask(book: &[u64], byte: u8, w: Wanted) -> Asked
+    ensures { λ r. ⌜ r ≡ asked w (now (book .entry)) byte ⌝ }
+{
+    let k = book::words_of(book.len());
+    if k == 0 {
+        return refuse(14);
+    }
+    let good = good_side(byte);
+    if !good {
+        return refuse(4);
+    }
+    let pass = scan(book, k, w);
+    let Pass::Seen(best) = pass else {
+        return refuse(13);
+    };
+    Asked::Answered(best)
+}
+
+// The best level not before the step `from`.
+fn first_from(book: &[u64], locate: Locate, byte: u8, from: u64) -> Quote
+    ensures { λ r. ⌜ r ≡ checked (now (book .entry)) byte (standing (now (book .entry)) (wordsOf (length (now (book .entry)))) (locate .0) (sideOf byte) from) ⌝ }
+{
+    let side = side_of(byte);
+    let asked = ask(
+        book,
+        byte,
+        Wanted {
+            locate,
+            side,
+            from,
+            to: 4294967296,
+        },
+    );
+    match asked {
+        Asked::Refused(refusal) => Quote::Refused(refusal),
+        Asked::Answered(best) => {
+            let steps = best.steps;
+            if steps < 4294967296 {
+                Quote::Stands(Level {
+                    price: price_at(side, steps),
+                    shares: best.shares,
+                    orders: best.orders,
+                })
+            } else {
+                Quote::Nothing
+            }
+        }
+    }
+}
+
+// What remains of the orders at a price, and how many they are; 0 and 0 where none stands.
+pub fn level(book: &[u64], locate: Locate, side: u8, price: u32) -> Quote
+    ensures { λ r. ⌜ r ≡ levelOf (now (book .entry)) (locate .0) side price ⌝ }
+{
+    let own = side_of(side);
+    let from = steps_to(own, price);
+    let asked = ask(
+        book,
+        side,
+        Wanted {
+            locate,
+            side: own,
+            from,
+            to: from + 1,
+        },
+    );
+    match asked {
+        Asked::Refused(refusal) => Quote::Refused(refusal),
+        Asked::Answered(there) => Quote::Stands(Level {
+            price,
+            shares: there.shares,
+            orders: there.orders,
+        }),
+    }
+}
+
+// The highest buy, or the lowest sell, with what stands there.
+pub fn best(book: &[u64], locate: Locate, side: u8) -> Quote
+    ensures { λ r. ⌜ r ≡ bestOf (now (book .entry)) (locate .0) side ⌝ }
+{
+    first_from(book, locate, side, 0)
+}
+
+// The next level below a price for buys, above it for sells; the price need not be a level.
+pub fn next(book: &[u64], locate: Locate, side: u8, price: u32) -> Quote
+    ensures { λ r. ⌜ r ≡ nextOf (now (book .entry)) (locate .0) side price ⌝ }
+{
+    let own = side_of(side);
+    let past = steps_to(own, price) + 1;
+    first_from(book, locate, side, past)
+}
