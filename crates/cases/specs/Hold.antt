@@ -11,6 +11,7 @@ use Rattle.laws.specs.Bools.{and-left, and-right}
 use Rattle.laws.specs.Bit.{bit, setBit, clearBit}
 use Rattle.laws.specs.Field.{field}
 use Rattle.laws.specs.Least.{least, pickN}
+use Rattle.laws.specs.Sum.{sumTo}
 use Rattle.kinds.specs.Admission.{maximum}
 use Rattle.text.specs.Text.{letter, letters, text}
 use Rattle.layout.specs.Layout.{lengthOf}
@@ -23,8 +24,12 @@ use Rattle.orders.specs.Order.{remaining, executedBy, cancelledBy, closedOf, se
 use Rattle.decide.specs.Stored.{heldAt, putOrder, entered, kept}
 use Rattle.fresh.specs.Fresh.{goodShapes, madeNumber, madeOf}
 use Rattle.apply.specs.Apply.{After, applied}
+use Rattle.accounts.specs.Accounts.{orderAsked}
+use Rattle.levels.specs.Levels.{levelAt, levelOf}
+use Rattle.levels.specs.Totals.{total, weighed}
+use Rattle.replies.specs.Replies.{accountNumber, accountRow, quoteNumber, levelRow}
 use Rattle.outcomes.specs.Outcomes.{numberOf, orderRow}
-use Rattle.cases.specs.Table.{Case, read, run, shape, table}
+use Rattle.cases.specs.Table.{Case, read, run, account, level, shape, table}
 
 -- the answer to the last of some messages applied in turn, and both tables then
 abbrev pub onward : After → List (List ℕ) → After
@@ -42,10 +47,16 @@ pub record Left (a : After) (n : ℕ) (figures d b : List ℕ) : Type 0 where
   pub directory : a .directory ≡ d
   pub book : a .book ≡ b
 
+-- the book that is left
+abbrev pub left : List (List ℕ) → List ℕ
+left ms = lastly (replicate 2 0) (replicate 257 0) ms .book
+
 -- what a row claims
 abbrev pub Holds : Case → Type 0
 Holds (read s n) = number (answer s) ≡ n
 Holds (run ms n figures d b) = Left (lastly (replicate 2 0) (replicate 257 0) ms) n figures d b
+Holds (account ms r n values) = (accountNumber (orderAsked (left ms) r) ≡ n) × (accountRow (orderAsked (left ms) r) ≡ values)
+Holds (level ms l side p n values) = (quoteNumber (levelOf (left ms) l side p) ≡ n) × (levelRow (levelOf (left ms) l side p) ≡ values)
 Holds (shape d b n m) =
     (madeNumber (madeOf (replicate d 0) (replicate b 0)) ≡ n) × (numberOf (applied (replicate d 0) (replicate b 0) [] .outcome) ≡ m)
 
@@ -71,6 +82,9 @@ ran a n figures d b =
 abbrev passes : Case → Bool
 passes (read s n) = eqb (number (answer s)) n
 passes (run ms n figures d b) = ran (lastly (replicate 2 0) (replicate 257 0) ms) n figures d b
+passes (account ms r n values) = eqb (accountNumber (orderAsked (left ms) r)) n && same (accountRow (orderAsked (left ms) r)) values
+passes (level ms l side p n values) =
+    eqb (quoteNumber (levelOf (left ms) l side p)) n && same (levelRow (levelOf (left ms) l side p)) values
 passes (shape d b n m) =
     eqb (madeNumber (madeOf (replicate d 0) (replicate b 0))) n && eqb (numberOf (applied (replicate d 0) (replicate b 0) [] .outcome)) m
 
@@ -82,7 +96,7 @@ computed : all-pass table ≡ true
 unfolding answer lengthOf judgedAs refusal field goodTime goodShares goodPrice goodSide goodPrintable text letters letter maximum
     mostNumbers goodLength entryAt registered mostWords wordsOf live numberAt holds isFree foundBelow find lowestFree four putSlot clearSlot
     bit setBit clearBit least pickN remaining executedBy cancelledBy closedOf second third fourth sound orderOf held heldAt putOrder entered
-    kept goodShapes madeOf applied
+    kept goodShapes madeOf applied orderAsked levelOf levelAt total weighed sumTo
 computed = refl
 
 -- ---- and back
@@ -102,9 +116,15 @@ ran-left a n figures d b e =
       book = same-true (a .book) b (and-right t2 t3 e2);
     }
 
+both : (x n : ℕ) (xs ys : List ℕ) → eqb x n && same xs ys ≡ true → (x ≡ n) × (xs ≡ ys)
+both x n xs ys e =
+    (eqb-true x n (and-left (eqb x n) (same xs ys) e), same-true xs ys (and-right (eqb x n) (same xs ys) e))
+
 means : (c : Case) → passes c ≡ true → Holds c
 means (read s n) e = eqb-true (number (answer s)) n e
 means (run ms n figures d b) e = ran-left (lastly (replicate 2 0) (replicate 257 0) ms) n figures d b e
+means (account ms r n values) e = both (accountNumber (orderAsked (left ms) r)) n (accountRow (orderAsked (left ms) r)) values e
+means (level ms l side p n values) e = both (quoteNumber (levelOf (left ms) l side p)) n (levelRow (levelOf (left ms) l side p)) values e
 means (shape d b n m) e =
     let x = madeNumber (madeOf (replicate d 0) (replicate b 0)) in
     let y = numberOf (applied (replicate d 0) (replicate b 0) [] .outcome) in

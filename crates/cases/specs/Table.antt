@@ -12,6 +12,10 @@ pub data Case : Type 0 where
   -- messages applied in turn to fresh tables, of 2 and of 257 numbers: of the last answer its number and the order's figures, and
   -- both whole tables that are left
   run : (messages : List (List ℕ)) (number : ℕ) (figures directory book : List ℕ) → Case
+  -- messages applied in turn to such tables, and then a question about an order: the number of the answer and its eight values
+  account : (messages : List (List ℕ)) (reference number : ℕ) (values : List ℕ) → Case
+  -- the same, and then a question about a level: the number of the answer, total and count
+  level : (messages : List (List ℕ)) (locate side price number : ℕ) (values : List ℕ) → Case
   -- tables of so many zeros: the number of making them fresh, and of applying no bytes to them
   shape : (directory book : ℕ) (fresh apply : ℕ) → Case
 
@@ -58,6 +62,9 @@ five = add 5 66 300 100000
 -- R, then order 5, E 100 and X 50
 abbrev pub fourth : List (List ℕ)
 fourth = register ∷ five ∷ execute 5 100 ∷ cancel 5 50 ∷ []
+
+abbrev pub twoSells : List (List ℕ)
+twoSells = register ∷ add 5 83 4294967295 100000 ∷ add 6 83 4294967295 100000 ∷ []
 
 -- buys of 300 at 100000 with the references n down to 1
 abbrev pub fill : ℕ → List (List ℕ)
@@ -112,18 +119,23 @@ table =
     -- 4: A of 300, E 100, X 50: 150 remain, and the numbers of the slot
     ∷ run (register ∷ five ∷ []) 0 (bought 300 300) listed (holding 5 0x000186A00000012C 0 0x0001424E53445100)
     ∷ run fourth 0 (bought 50 150) listed fourthBook
+    ∷ account fourth 5 0 (300 ∷ 100 ∷ 50 ∷ 150 ∷ 1 ∷ 66 ∷ 100000 ∷ 0x4E534451 ∷ [])
+    ∷ level fourth 1 66 100000 0 (150 ∷ 1 ∷ [])
     -- 5: then E 151: 11; E 150 instead: gone
     ∷ run (fourth ++ (execute 5 151 ∷ [])) 11 (replicate 10 0) listed fourthBook
     ∷ run (fourth ++ (execute 5 150 ∷ [])) 0 (bought 150 0) listed empty
+    ∷ account (fourth ++ (execute 5 150 ∷ [])) 5 10 (replicate 8 0)
+    ∷ level (fourth ++ (execute 5 150 ∷ [])) 1 66 100000 0 (0 ∷ 0 ∷ [])
     -- 6: U with new equal to original: 9
     ∷ run (fourth ++ (replace 5 5 10 100000 ∷ [])) 9 (replicate 10 0) listed fourthBook
     -- 7: D, then A with the same reference: a new life
     ∷ run (fourth ++ (deleteAt 0 5 ∷ [])) 0 (bought 150 0) listed empty
     ∷ run (fourth ++ (deleteAt 0 5 ∷ five ∷ [])) 0 (bought 300 300) listed (holding 5 0x000186A00000012C 0 0x0001424E53445100)
-    -- 8: two sells of 4,294,967,295 at one price
-    ∷ run (register ∷ add 5 83 4294967295 100000 ∷ add 6 83 4294967295 100000 ∷ []) 0
+    -- 8: two sells of 4,294,967,295 at one price: total 8,589,934,590, count 2
+    ∷ run twoSells 0
     (1 ∷ 83 ∷ 100000 ∷ 4294967295 ∷ 4294967295 ∷ replicate 5 0) listed
     (holdingTwo 5 0x000186A0FFFFFFFF 0 0x0001534E53445100 6 0x000186A0FFFFFFFF 0 0x0001534E53445100)
+    ∷ level twoSells 1 83 100000 0 (8589934590 ∷ 2 ∷ [])
     -- 9: 64 live of 64: A gets 12, U is accepted; D, then A: accepted in the freed slot
     ∷ run (register ∷ fill 64 ++ (add 65 66 300 100000 ∷ [])) 12 (replicate 10 0) listed filled
     ∷ run (register ∷ fill 64 ++ (replace 30 65 300 100000 ∷ [])) 0
