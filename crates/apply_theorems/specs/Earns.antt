@@ -47,16 +47,16 @@ pub record Comes (v : Verdict) (rest : ℕ → Type 0) : Type 0 where
 -- ---- tests
 
 -- a test that fails exactly where P holds
-data Test (P : Type 0) : Bool → Type 0 where
+pub data Test (P : Type 0) : Bool → Type 0 where
   passes : (P → ⊥) → Test P true
   fails : P → Test P false
 
 -- a test of P is one of Q, where both hold alike
-alike : {P Q : Type 0} {t : Bool} → (P → Q) → (Q → P) → Test P t → Test Q t
+pub alike : {P Q : Type 0} {t : Bool} → (P → Q) → (Q → P) → Test P t → Test Q t
 alike f g (passes n) = passes (λ q. n (g q))
 alike f g (fails p) = fails (f p)
 
-differ : (m n : ℕ) → Test (m ≢ n) (eqb m n)
+pub differ : (m n : ℕ) → Test (m ≢ n) (eqb m n)
 differ m n = go (eqb m n) refl
   where
     go : (t : Bool) → eqb m n ≡ t → Test (m ≢ n) t
@@ -130,7 +130,7 @@ places {d} b k l symbol o (within i) =
     record { number = refl }
 
 -- E, C, X, D, U: 10, 13; next is what a sound order comes to
-named : {b : List ℕ} {k r s : ℕ} {z : Seen} {rest : ℕ → Type 0} (f : Seen → Verdict)
+pub named : {b : List ℕ} {k r s : ℕ} {z : Seen} {rest : ℕ → Type 0} (f : Seen → Verdict)
     → f nothing ≡ refuse 10 → f (something Unsound) ≡ refuse 13
     → Sight b k r s z → ((o : Order) → IsOrder b k r o → Comes (f (something (Sound o))) rest)
     → Comes (f z) (first (IsLive b k r → ⊥) 10 (first (Broken b k r) 13 rest))
@@ -175,16 +175,16 @@ earned d b k no-more = record { number = refl }
 -- ---- one number only
 
 -- rest gives one number at the most
-abbrev One : (ℕ → Type 0) → Type 0
+abbrev pub One : (ℕ → Type 0) → Type 0
 One rest = (m n : ℕ) → rest m → rest n → m ≡ n
 
-one : {P : Type 0} {c : ℕ} {rest : ℕ → Type 0} → One rest → One (first P c rest)
+pub one : {P : Type 0} {c : ℕ} {rest : ℕ → Type 0} → One rest → One (first P c rest)
 one o m n (inl x) (inl y) = x .1 ∙ sym (y .1)
 one o m n (inl x) (inr y) = absurd (y .0 (x .0))
 one o m n (inr x) (inl y) = absurd (x .0 (y .0))
 one o m n (inr x) (inr y) = o m n (x .1) (y .1)
 
-last : One done
+pub last : One done
 last m n p q = p ∙ sym q
 
 pub earned-unique : (d b : List ℕ) (k : ℕ) (a : Asked) → One (Earned d b k a)

@@ -64,11 +64,11 @@ shown-back x =
 
 -- ---- the numbers of an outcome
 
-side-some : (x : Side) → eqb (sideByte x) 0 ≡ false
+pub side-some : (x : Side) → eqb (sideByte x) 0 ≡ false
 side-some Buy = refl
 side-some Sell = refl
 
-side-back : (x : Side) → sideOf (sideByte x) ≡ x
+pub side-back : (x : Side) → sideOf (sideByte x) ≡ x
 side-back Buy = refl
 side-back Sell = refl
 

@@ -1,9 +1,10 @@
 -- What the calls for another language ensure: the numbers of what the calls below them answer, and both tables. Assumes nothing.
 use Prim.Native.Nat.{ℕ}
 use mathlib.Core.Path.{_≡_}
-use mathlib.Core.List.{List}
+use mathlib.Core.List.{List, [], _∷_}
 use Rattle.fresh.specs.Fresh.{madeNumber, madeOf, freshOf}
 use Rattle.apply.specs.Apply.{After}
+use Rattle.symbol.specs.declared.Part.{Part}
 use Rattle.outcomes.specs.Outcomes.{numberOf, rowOf, orderRow}
 
 -- the number r, and the tables d and b became d′ and b′
@@ -19,3 +20,7 @@ pub record Answers (a : After) (r : ℕ) (d b out figures : List ℕ) : Type 0 w
   pub book : b ≡ a .book
   pub message : out ≡ rowOf (a .outcome)
   pub orders : figures ≡ orderRow (a .outcome)
+
+-- where a part of a message starts and how long it is
+abbrev pub partRow : Part → List ℕ
+partRow p = p .start ∷ p .len ∷ []

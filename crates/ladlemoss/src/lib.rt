@@ -3,10 +3,11 @@ ghost use mathlib.Core.Path.{_≡_};
 ghost use Rattle.accounts.specs.Accounts.{orderAsked};
 ghost use Rattle.apply.specs.Apply.{applied};
 ghost use Rattle.census.specs.Census.{countAsked};
-ghost use Rattle.ladlemoss.specs.Face.{Answers, Freshens};
+ghost use Rattle.ladlemoss.specs.Face.{Answers, Freshens, partRow};
 ghost use Rattle.levels.specs.Levels.{bestOf, levelOf, nextOf};
 ghost use Rattle.numbers.specs.Shown.{number, row};
 ghost use Rattle.reader.specs.Read.{answer};
+ghost use Rattle.symbol.specs.Symbol.{symbolPart};
 ghost use Rattle.replies.specs.Replies.{accountNumber, accountRow, countNumber, countRow, levelRow, quoteNumber, quoteRow};
 use fresh::Made;
 use kinds::Locate;
@@ -104,4 +105,13 @@ pub extern "C" fn ladlemoss_live(book: &[u64], out: &mut [u64; 1]) -> u8
     ensures { λ r. ⌜ (r ≡ countNumber (countAsked (now (book .entry)))) × (now (out .exit) ≡ countRow (countAsked (now (book .entry)))) ⌝ }
 {
     replies::count(census::live_count(book), out)
+}
+
+// Where the unpadded symbol of a message starts in it and how long it is; 0 and 0 where it has none that is registered.
+#[no_mangle]
+pub extern "C" fn ladlemoss_symbol(directory: &[u64], bytes: &[u8], out: &mut [u64; 2])
+    ensures { λ _. ⌜ now (out .exit) ≡ partRow (symbolPart (now (directory .entry)) (now (bytes .entry))) ⌝ }
+{
+    let part = symbol::place(directory, bytes);
+    *out = [part.start as u64, part.len as u64];
 }
