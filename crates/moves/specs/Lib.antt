@@ -1,0 +1,9 @@
+pub mod Altered
+pub mod Facts
+pub mod Judged
+pub mod Kept
+pub mod Lawful
+pub mod Moved
+pub mod Moves
+pub mod Reads
+pub mod TotalMoves
