@@ -1,5 +1,5 @@
--- What is left of an order of which shares are taken: the same reference, the shares less, and an order that fits a slot unless all
--- is taken. Assumes nothing.
+-- What is left of an order of which shares are taken: the same reference and locate, the shares less, and an order that fits a slot
+-- unless all is taken. Assumes nothing.
 use mathlib.Core.Path.{_≡_, refl, sym, ap, subst, _∙_}
 use mathlib.Core.Logic.{_≢_}
 use mathlib.Core.List.{List}
@@ -19,6 +19,11 @@ unfolding executedBy cancelledBy
 taken-reference Executed o n = refl
 taken-reference Cancelled o n = refl
 
+pub taken-locate : (how : Taking) (o : Order) (n : ℕ) → takenBy how o n .locate ≡ o .locate
+unfolding executedBy cancelledBy
+taken-locate Executed o n = refl
+taken-locate Cancelled o n = refl
+
 pub taken-remaining : (how : Taking) (o : Order) (n : ℕ) → remaining (takenBy how o n) ≡ remaining o - n
 taken-remaining Executed o n = executed-remaining o n
 taken-remaining Cancelled o n = cancelled-remaining o n
@@ -32,6 +37,9 @@ module _ {b : List ℕ} {k : ℕ} {a : Asked} {o o′ : Order} {n : ℕ} (f : Al
   pub altered-reference : o′ .reference .0 ≡ f .reference
   altered-reference =
       ap (λ (x : Order). x .reference .0) (f .after) ∙ rw (taken-reference (f .how) o n) (f .rests .reference)
+
+  pub altered-locate : o′ .locate .0 ≡ o .locate .0
+  altered-locate = ap (λ (x : Order). x .locate .0) (f .after) ∙ rw (taken-locate (f .how) o n)
 
   pub altered-remaining : remaining o′ ≡ remaining o - n
   altered-remaining = ap remaining (f .after) ∙ taken-remaining (f .how) o n

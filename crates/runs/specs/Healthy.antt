@@ -1,0 +1,217 @@
+-- We never damage a table: tables made fresh are healthy and their numbers fit 64 bits, and both last through any message, so
+-- through any run; healthy tables give neither 13 nor 14. Assumes nothing.
+use mathlib.Core.Path.{_≡_, refl, sym, ap, subst, _∙_}
+use mathlib.Core.Logic.{_⊎_, inl, inr, _≢_}
+use mathlib.Core.Bool.{Bool, true, false, false≢true}
+use mathlib.Core.List.{List, [], _∷_, List·Memᴰ·head as here, List·Memᴰ·tail as there}
+use Prim.Native.Nat.{ℕ, zero, suc, _+_, _*_, _/_, _%_, _^_, _≤_}
+use native.Mathlib.Nat.{zero-div}
+use native.Mathlib.Omega.{arith}
+use lib.ListN.{getD, replicate, length-replicate}
+use Rattle.laws.specs.Bit.{bit}
+use Rattle.messages.specs.declared.Answer.{Answer}
+use Rattle.messages.specs.declared.Answer.the-variants as read
+use Rattle.book.specs.Book.{live, numberAt}
+use Rattle.book.specs.Shape.{Sized}
+use Rattle.orders.specs.declared.Held.{Held}
+use Rattle.orders.specs.declared.Held.the-variants.{Sound, Unsound}
+use Rattle.reader.specs.Read.{answer}
+use Rattle.numbers.specs.Shown.{number}
+use Rattle.read_theorems.specs.Exactly.{exactly as read-exactly}
+use Rattle.decide.specs.Decide.{Verdict}
+use Rattle.decide.specs.Stored.{stored, enrolled}
+use Rattle.steps.specs.Asked.{Asked, register, start as begin, take, close, replace, nothing, asked}
+use Rattle.steps.specs.Steps.{judged, slotNamed}
+use Rattle.apply.specs.Apply.{After, applied}
+use Rattle.apply.specs.ApplyLaws.{unread, judgement}
+use Rattle.apply_theorems.specs.Statements.{Shaped, Broken, Earned, Judged, Given}
+use Rattle.apply_theorems.specs.Means.{shaped-good, shaped-words, shaped-unique}
+use Rattle.apply_theorems.specs.Exactly.{exactly}
+use Rattle.moves.specs.Lawful.{Bytes}
+use Rattle.moves.specs.Moves.{Numbers}
+use Rattle.moves.specs.Reads.{lawful}
+use Rattle.moves.specs.Facts.{Facts}
+use Rattle.moves.specs.Judged.{facts}
+use Rattle.moves.specs.Kept.{stored-length, enrolled-length, stored-numbers, enrolled-numbers}
+use Rattle.outcomes.specs.Outcomes.{numberOf}
+use Rattle.runs.specs.Runs.{Tables, onward, answered, reached}
+use Rattle.runs.specs.Statements.{Run, Start, start, Healthy, NeverDamaged}
+use Rattle.runs.specs.Orderly.{Orderly, stored-orderly, enrolled-nought}
+
+-- every number of both tables fits 64 bits
+pub record Fitting (t : Tables) : Type 0 where
+  pub directory : Numbers (t .directory)
+  pub book : Numbers (t .book)
+
+-- ---- tables made fresh
+
+all-zero : (n i : ℕ) → _≡_ {A = ℕ} (getD (replicate n 0) i 0) 0
+all-zero zero i = refl
+all-zero (suc n) zero = refl
+all-zero (suc n) (suc i) = all-zero n i
+
+none-live : (m s : ℕ) → live (replicate m 0) s ≡ 0
+unfolding live bit
+none-live m s = rw (all-zero m (s / 64), zero-div (2 ^ (s % 64)))
+
+all-numbers-zero : (m k s i : ℕ) → numberAt (replicate m 0) k s i ≡ 0
+unfolding numberAt
+all-numbers-zero m k s i = all-zero m (k + 4 * s + i)
+
+pub healthy-start : (n k : ℕ) → Start n k → Healthy n k (start n k)
+healthy-start n k z =
+    record {
+      directory-length = length-replicate n 0;
+      book-length = length-replicate (257 * k) 0;
+      nought = all-zero n 0;
+      sound = λ s l e. absurd (omega (arith, none-live (257 * k) s, e));
+      apart = λ s u l m e f w. absurd (omega (arith, none-live (257 * k) s, e));
+      free = λ s l e i m. all-numbers-zero (257 * k) k s i;
+    }
+
+pub fitting-start : (n k : ℕ) → Start n k → Fitting (start n k)
+fitting-start n k z =
+    record { directory = λ i. omega (arith, all-zero n i); book = λ i. omega (arith, all-zero (257 * k) i) }
+
+-- ---- what health is made of
+
+module _ {n k : ℕ} {t : Tables} where
+  pub healthy-shaped : Start n k → Healthy n k t → Shaped (t .directory) (t .book) k
+  healthy-shaped z h =
+      let e = h .directory-length in
+      record {
+        least = omega (arith, z .least);
+        most = omega (arith, z .most);
+        some = z .some;
+        few = z .few;
+        size = h .book-length;
+      }
+
+  pub healthy-sized : Start n k → Healthy n k t → Sized (t .book) k
+  healthy-sized z h = record { size = h .book-length; most = omega (arith, z .few) }
+
+  pub healthy-orderly : Healthy n k t → Orderly (t .directory) (t .book) k
+  healthy-orderly h = record { sound = h .sound; apart = h .apart; free = h .free }
+
+-- ---- one message
+
+-- the tables after a verdict about what is asked
+abbrev pub settledTables : Tables → ℕ → Asked → Verdict → Tables
+settledTables t k a v = record { directory = enrolled (t .directory) v; book = stored (t .book) k (slotNamed (t .book) k a) v }
+
+-- what holds of healthy tables, and of them after any verdict with its facts, holds after a message
+pub onward-keeps : (P : Tables → Type 0) (n k : ℕ) (t : Tables) (s : List ℕ) → Start n k → Healthy n k t → Fitting t → Bytes s → P t
+    → ((a : Asked) (v : Verdict) → Facts (t .directory) (t .book) k a v → P (settledTables t k a v)) → P (onward t s)
+onward-keeps P n k t s z h w y p next = go (answer s) refl
+  where
+    shaped : Shaped (t .directory) (t .book) k
+    shaped = healthy-shaped z h
+
+    goes : {x : After} → applied (t .directory) (t .book) s ≡ x → P (record { directory = x .directory; book = x .book }) → P (onward t s)
+    goes e = subst (λ (x : After). P (record { directory = x .directory; book = x .book })) (sym e)
+
+    go : (x : Answer) → answer s ≡ x → P (onward t s)
+    go (read.Refused r) e = goes (unread (t .directory) (t .book) s (shaped-good shaped) e) p
+    go (read.Good m) e =
+        let f = facts (t .directory) (t .book) k (asked m) (healthy-sized z h) (w .book) (lawful s m y e) in
+        goes (judgement (t .directory) (t .book) s (shaped-good shaped) e)
+        (rw (shaped-words shaped) (next (asked m) (judged (t .directory) (t .book) k (asked m)) f))
+
+-- after a verdict with its facts
+settled-healthy : {n k : ℕ} {t : Tables} → Start n k → Healthy n k t → (a : Asked) (v : Verdict)
+    → Facts (t .directory) (t .book) k a v → Healthy n k (settledTables t k a v)
+settled-healthy {n} {k} {t} z h a v f =
+    let o = stored-orderly (t .directory) (t .book) k a (healthy-sized z h) (healthy-orderly h) v f in
+    record {
+      directory-length = enrolled-length (t .directory) v ∙ h .directory-length;
+      book-length = stored-length (t .book) k (slotNamed (t .book) k a) v ∙ h .book-length;
+      nought = enrolled-nought (t .directory) (t .book) k a v f ∙ h .nought;
+      sound = o .sound;
+      apart = o .apart;
+      free = o .free;
+    }
+
+settled-fitting : {t : Tables} (k : ℕ) → Fitting t → (a : Asked) (v : Verdict) → Facts (t .directory) (t .book) k a v
+    → Fitting (settledTables t k a v)
+settled-fitting {t} k w a v f =
+    record {
+      directory = enrolled-numbers (t .directory) (t .book) k a v f (w .directory);
+      book = stored-numbers (t .directory) (t .book) k a (slotNamed (t .book) k a) v f (w .book);
+    }
+
+pub healthy-onward : (n k : ℕ) (t : Tables) (s : List ℕ) → Start n k → Healthy n k t → Fitting t → Bytes s → Healthy n k (onward t s)
+healthy-onward n k t s z h w y = onward-keeps (Healthy n k) n k t s z h w y h (settled-healthy z h)
+
+pub fitting-onward : (n k : ℕ) (t : Tables) (s : List ℕ) → Start n k → Healthy n k t → Fitting t → Bytes s → Fitting (onward t s)
+fitting-onward n k t s z h w y = onward-keeps Fitting n k t s z h w y w (settled-fitting k w)
+
+-- ---- a run
+
+-- from any tables that are healthy and fitting
+pub healthy-through : (n k : ℕ) (ss : List (List ℕ)) (t : Tables) → Start n k → Healthy n k t → Fitting t → Run ss
+    → Healthy n k (reached t ss) × Fitting (reached t ss)
+healthy-through n k [] t z h w r = (h, w)
+healthy-through n k (s ∷ ss) t z h w r =
+    let y = r s (here refl) in
+    healthy-through n k ss (onward t s) z (healthy-onward n k t s z h w y) (fitting-onward n k t s z h w y) λ x m. r x (there m)
+
+pub healthy-reached : (n k : ℕ) (ss : List (List ℕ)) → Start n k → Run ss → Healthy n k (reached (start n k) ss)
+healthy-reached n k ss z r = healthy-through n k ss (start n k) z (healthy-start n k z) (fitting-start n k z) r .0
+
+pub fitting-reached : (n k : ℕ) (ss : List (List ℕ)) → Start n k → Run ss → Fitting (reached (start n k) ss)
+fitting-reached n k ss z r = healthy-through n k ss (start n k) z (healthy-start n k z) (fitting-start n k z) r .1
+
+-- ---- neither 13 nor 14
+
+abbrev isSound : Held → Bool
+isSound (Sound o) = true
+isSound Unsound = false
+
+-- no slot concerned is unsound
+orderly-whole : {d b : List ℕ} {k r : ℕ} → Orderly d b k → Broken b k r → ⊥
+orderly-whole h x =
+    let p = h .sound (x .slot) (x .lowest .inside) (x .lowest .alive) in
+    false≢true (ap isSound (sym (x .unsound) ∙ p .1))
+
+-- a check that gives 12 or less, or never fails
+check : {P Q : Type 0} {c n : ℕ} → (P → c ≤ 12) → (Q → n ≤ 12) → (P × (n ≡ c)) ⊎ ((P → ⊥) × Q) → n ≤ 12
+check few next (inl x) = omega (arith, few (x .0), x .1)
+check few next (inr x) = next (x .1)
+
+-- where no slot is broken, what is asked earns 12 or less
+earned-few : (d b : List ℕ) (k : ℕ) (a : Asked) (n : ℕ) → ((r : ℕ) → Broken b k r → ⊥) → Earned d b k a n → n ≤ 12
+earned-few d b k (register l symbol) n w = check (λ _. omega arith) (check (λ _. omega arith) (λ e. omega (arith, e)))
+earned-few d b k (begin o symbol) n w =
+    check (λ _. omega arith)
+    (check (λ _. omega arith) (check (λ _. omega arith) (check (λ _. omega arith) (λ e. omega (arith, e)))))
+earned-few d b k (take how r l c) n w =
+    check (λ _. omega arith)
+    (check (λ x. absurd (w r x)) (check (λ _. omega arith) (check (λ _. omega arith) (λ e. omega (arith, e)))))
+earned-few d b k (close r l) n w =
+    check (λ _. omega arith) (check (λ x. absurd (w r x)) (check (λ _. omega arith) (λ e. omega (arith, e))))
+earned-few d b k (replace original new l c p) n w =
+    check (λ _. omega arith)
+    (check (λ x. absurd (w original x)) (check (λ _. omega arith) (check (λ _. omega arith) (λ e. omega (arith, e)))))
+earned-few d b k nothing n w = λ e. omega (arith, e)
+
+-- healthy tables give 12 or less, whatever the bytes
+pub healthy-few : (n k : ℕ) (t : Tables) (s : List ℕ) → Start n k → Healthy n k t → numberOf (answered t s) ≤ 12
+healthy-few n k t s z h = go (exactly (t .directory) (t .book) s (numberOf (answered t s)) .0 refl)
+  where
+    told : {j m : ℕ} → j ≡ k → ((number (answer s) ≡ m) × (m ≢ 0)) ⊎ Judged (t .directory) (t .book) s j m → m ≤ 12
+    told e (inl x) = omega (arith, x .0, read-exactly s .no-other)
+    told {j} {m} e (inr x) =
+        earned-few (t .directory) (t .book) j (asked (x .message)) m (λ r y. orderly-whole (healthy-orderly h) (rw e at y)) (x .earned)
+
+    go : Given (t .directory) (t .book) s (numberOf (answered t s)) → numberOf (answered t s) ≤ 12
+    go (inl x) = absurd (x .0 k (healthy-shaped z h))
+    go (inr x) = told (shaped-unique (x .1) (healthy-shaped z h)) (x .2)
+
+pub never-damaged : (n k : ℕ) (ss : List (List ℕ)) → Start n k → Run ss → NeverDamaged n k ss
+never-damaged n k ss z r =
+    let h = healthy-reached n k ss z r in
+    record {
+      healthy = h;
+      no-book = λ s e. omega (arith, healthy-few n k (reached (start n k) ss) s z h, e);
+      no-shape = λ s e. omega (arith, healthy-few n k (reached (start n k) ss) s z h, e);
+    }

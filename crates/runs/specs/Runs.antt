@@ -1,0 +1,40 @@
+-- A run: byte strings applied in turn to the same two tables, from tables made fresh. Assumes nothing.
+use Prim.Native.Nat.{ℕ}
+use mathlib.Core.List.{List, [], _∷_}
+use lib.ListN.{length, replicate}
+use Rattle.apply.specs.declared.Outcome.{Outcome}
+use Rattle.apply.specs.Apply.{applied}
+
+pub record Tables : Type 0 where
+  pub directory : List ℕ
+  pub book : List ℕ
+
+-- a message, and the answer that was given to it
+pub record Said : Type 0 where
+  pub bytes : List ℕ
+  pub outcome : Outcome
+
+-- tables of these lengths, made fresh
+abbrev pub freshTables : ℕ → ℕ → Tables
+freshTables n m = record { directory = replicate n 0; book = replicate m 0 }
+
+-- the tables after one message
+abbrev pub onward : Tables → List ℕ → Tables
+onward t s = record {
+  directory = applied (t .directory) (t .book) s .directory;
+  book = applied (t .directory) (t .book) s .book;
+}
+
+-- the answer to one message
+abbrev pub answered : Tables → List ℕ → Outcome
+answered t s = applied (t .directory) (t .book) s .outcome
+
+-- the tables after a run
+abbrev pub reached : Tables → List (List ℕ) → Tables
+reached t [] = t
+reached t (s ∷ ss) = reached (onward t s) ss
+
+-- what was said in a run: each message with its answer
+abbrev pub said : Tables → List (List ℕ) → List Said
+said t [] = []
+said t (s ∷ ss) = record { bytes = s; outcome = answered t s } ∷ said (onward t s) ss
