@@ -6,3 +6,10 @@ pub mod Healthy
 pub mod RunLaws
 pub mod LevelRuns
 pub mod OrderRuns
+pub mod Onward
+pub mod SameSeen
+pub mod AlikeAsks
+pub mod Room
+pub mod Alike
+pub mod Agree
+pub mod OwnOnly

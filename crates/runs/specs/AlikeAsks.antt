@@ -1,0 +1,123 @@
+-- ALL QUESTIONS ARE ANSWERED ALIKE (`asks-alike`) by healthy books with the same orders: in a healthy book 13 and 14 are never given, and
+-- every answer is made of totals and of what is seen under a reference. Assumes nothing.
+use mathlib.Core.Path.{_≡_, sym, ap, _∙_}
+use mathlib.Core.Bool.{false, cond, _&&_}
+use mathlib.Core.List.{List}
+use Prim.Native.Nat.{ℕ, _+_, _*_}
+use native.Mathlib.Omega.{arith}
+use borrow.Author.Tests.{eq-eqb, ne-eqb}
+use lib.Dec.{eqb, leb, ltb}
+use lib.ListN.{length}
+use Rattle.laws.specs.Least.{least-ext}
+use Rattle.laws.specs.Sum.{sum-ext}
+use Rattle.kinds.specs.declared.Side.{Side}
+use Rattle.messages.specs.Typed.{sideOf}
+use Rattle.wellformed.specs.WellFormed.{goodSide}
+use Rattle.book.specs.Book.{live, find, wordsOf}
+use Rattle.decide.specs.Stored.{seenIn}
+use Rattle.accounts.specs.Accounts.{accounted, orderAsked}
+use Rattle.census.specs.declared.Counted.the-variants.{Live}
+use Rattle.census.specs.Census.{liveCount, countAsked}
+use Rattle.levels.specs.declared.Quote.{Quote}
+use Rattle.levels.specs.declared.Quote.the-variants.{Nothing, Stands}
+use Rattle.levels.specs.Levels.{sharesAt, ordersAt, unsoundness, levelAt, allPrices, priceAt, stepsTo, someAt, firstStep, standing}
+use Rattle.levels.specs.Levels.{refused, checked, levelOf, bestOf, nextOf}
+use Rattle.levels.specs.Totals.{weighed, total}
+use Rattle.levels.specs.TotalLaws.{none-total}
+use Rattle.runs.specs.Runs.{Tables}
+use Rattle.runs.specs.Statements.{Start, Healthy, SameOrders, Alike, AskedAlike}
+use Rattle.runs.specs.Onward.{words}
+use Rattle.runs.specs.SameSeen.{seen-same}
+
+-- ---- one healthy book
+
+module _ {n k : ℕ} {t : Tables} (z : Start n k) (h : Healthy n k t) where
+  some-words : eqb k 0 ≡ false
+  some-words = ne-eqb k 0 (λ e. omega (arith, z .some))
+
+  all-sound : total unsoundness (t .book) k ≡ 0
+  all-sound = none-total unsoundness (t .book) k λ s l e. ap unsoundness (h .sound s l e .1)
+
+  -- so a question about levels is refused only for its side
+  checked-side : (byte : ℕ) (q : ℕ → Quote)
+      → checked (t .book) byte (q (wordsOf (length (t .book)))) ≡ cond (goodSide byte) (q k) (refused 4)
+  checked-side byte q = rw (words z h, some-words, eq-eqb (total unsoundness (t .book) k) 0 all-sound)
+
+  pub order-seen : (r : ℕ) → orderAsked (t .book) r ≡ accounted (seenIn (t .book) k (find (t .book) k r))
+  unfolding orderAsked
+  order-seen r = rw (words z h, some-words)
+
+  pub level-stands : (l byte p : ℕ)
+      → levelOf (t .book) l byte p ≡ cond (goodSide byte) (Stands (levelAt (t .book) k l (sideOf byte) p)) (refused 4)
+  unfolding levelOf
+  level-stands l byte p = checked-side byte (λ i. Stands (levelAt (t .book) i l (sideOf byte) p))
+
+  best-stands : (l byte : ℕ) → bestOf (t .book) l byte ≡ cond (goodSide byte) (standing (t .book) k l (sideOf byte) 0) (refused 4)
+  unfolding bestOf
+  best-stands l byte = checked-side byte (λ i. standing (t .book) i l (sideOf byte) 0)
+
+  next-stands : (l byte p : ℕ)
+      → nextOf (t .book) l byte p ≡ cond (goodSide byte) (standing (t .book) k l (sideOf byte) (stepsTo (sideOf byte) p + 1)) (refused 4)
+  unfolding nextOf
+  next-stands l byte p = checked-side byte (λ i. standing (t .book) i l (sideOf byte) (stepsTo (sideOf byte) p + 1))
+
+  count-live : countAsked (t .book) ≡ Live (liveCount (t .book) k)
+  unfolding countAsked
+  count-live = rw (words z h, some-words)
+
+-- the live count is the total of the weight 1
+pub count-total : (b : List ℕ) (k : ℕ) → liveCount b k ≡ total (λ h. 1) b k
+unfolding liveCount total weighed
+count-total b k = sum-ext (live b) (weighed (λ h. 1) b k) (64 * k) λ s l. omega arith
+
+-- ---- two books
+
+-- levels are made of the totals of their shares and orders
+pub level-same : (b : List ℕ) (k : ℕ) (c : List ℕ) (m l : ℕ) (side : Side) (p : ℕ)
+    → total (sharesAt l side p) b k ≡ total (sharesAt l side p) c m → total (ordersAt l side p) b k ≡ total (ordersAt l side p) c m
+    → levelAt b k l side p ≡ levelAt c m l side p
+unfolding levelAt
+level-same b k c m l side p e f = λ i. record { price = p; shares = e i; orders = f i }
+
+module _ (b : List ℕ) (k : ℕ) (c : List ℕ) (m : ℕ) (same : SameOrders b k c m) where
+  first-same : (l : ℕ) (side : Side) (from to : ℕ) → firstStep b k l side from to ≡ firstStep c m l side from to
+  unfolding firstStep someAt
+  first-same l side from to =
+      least-ext (λ i. leb from i && someAt b k l side i) (λ i. leb from i && someAt c m l side i) to λ i h.
+      ap (λ (x : ℕ). leb from i && ltb 0 x) (same (ordersAt l side (priceAt side i)))
+
+  standing-same : (l : ℕ) (side : Side) (from : ℕ) → standing b k l side from ≡ standing c m l side from
+  unfolding standing
+  standing-same l side from =
+      let e = first-same l side from allPrices in
+      λ i. cond (ltb (e i) allPrices) (Stands (levels (priceAt side (e i)) i)) Nothing
+    where
+      levels : (p : ℕ) → levelAt b k l side p ≡ levelAt c m l side p
+      levels p = level-same b k c m l side p (same (sharesAt l side p)) (same (ordersAt l side p))
+
+  pub count-same : liveCount b k ≡ liveCount c m
+  count-same = count-total b k ∙ same (λ h. 1) ∙ sym (count-total c m)
+
+-- the same orders stand under each reference
+pub alike-seen : {n k m : ℕ} {t u : Tables} → Alike n k m t u → (r : ℕ)
+    → seenIn (t .book) k (find (t .book) k r) ≡ seenIn (u .book) m (find (u .book) m r)
+alike-seen {n} {k} {m} {t} {u} a r = seen-same n k n m t u r (a .first) (a .second) (λ o e. a .orders _)
+
+pub asks-alike : (n k m : ℕ) (t u : Tables) → Start n k → Start n m → Alike n k m t u → AskedAlike (t .book) (u .book)
+asks-alike n k m t u z y a = record {
+  order = λ r. order-seen z (a .first) r ∙ ap accounted (alike-seen a r) ∙ sym (order-seen y (a .second) r);
+  level = λ l byte p.
+      level-stands z (a .first) l byte p
+      ∙ ap (λ x. cond (goodSide byte) (Stands x) (refused 4))
+      (level-same (t .book) k (u .book) m l (sideOf byte) p (a .orders (sharesAt l (sideOf byte) p)) (a .orders (ordersAt l (sideOf byte) p)))
+      ∙ sym (level-stands y (a .second) l byte p);
+  best = λ l byte.
+      best-stands z (a .first) l byte
+      ∙ ap (λ x. cond (goodSide byte) x (refused 4)) (standing-same (t .book) k (u .book) m (a .orders) l (sideOf byte) 0)
+      ∙ sym (best-stands y (a .second) l byte);
+  next = λ l byte p.
+      next-stands z (a .first) l byte p
+      ∙ ap (λ x. cond (goodSide byte) x (refused 4)) (standing-same (t .book) k (u .book) m (a .orders) l (sideOf byte) (stepsTo (sideOf byte) p + 1))
+      ∙ sym (next-stands y (a .second) l byte p);
+  count = count-live z (a .first) ∙ ap Live (count-same (t .book) k (u .book) m (a .orders)) ∙ sym (count-live y (a .second));
+}

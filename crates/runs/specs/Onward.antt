@@ -1,0 +1,66 @@
+-- One message over healthy tables: it is refused unread, or its verdict moves the book's totals (`step-moved`). Assumes nothing.
+use mathlib.Core.Path.{_≡_, sym, ap, subst, _∙_}
+use mathlib.Core.List.{List}
+use Prim.Native.Nat.{ℕ}
+use native.Mathlib.Omega.{arith}
+use lib.ListN.{length}
+use Rattle.messages.specs.declared.Message.{Message}
+use Rattle.messages.specs.declared.Refusal.{Refusal}
+use Rattle.messages.specs.declared.Answer.the-variants as read
+use Rattle.book.specs.Book.{wordsOf}
+use Rattle.book.specs.Shape.{Sized}
+use Rattle.reader.specs.Read.{answer}
+use Rattle.steps.specs.Asked.{asked}
+use Rattle.steps.specs.Steps.{judged, slotNamed}
+use Rattle.apply.specs.Apply.{After, unchanged, settled, applied}
+use Rattle.apply.specs.ApplyLaws.{unread, judgement}
+use Rattle.apply_theorems.specs.Statements.{Shaped}
+use Rattle.apply_theorems.specs.Means.{shaped-words, shaped-good}
+use Rattle.moves.specs.Lawful.{Bytes}
+use Rattle.moves.specs.Moves.{Moved}
+use Rattle.moves.specs.Facts.{Facts}
+use Rattle.moves.specs.Judged.{facts}
+use Rattle.moves.specs.Moved.{moved}
+use Rattle.moves.specs.Reads.{lawful}
+use Rattle.runs.specs.Runs.{Tables, onward}
+use Rattle.runs.specs.Statements.{Start, Healthy}
+use Rattle.runs.specs.Healthy.{Fitting}
+
+module _ {n k : ℕ} {t : Tables} (z : Start n k) (h : Healthy n k t) where
+  -- the shapes are good
+  pub shaped : Shaped (t .directory) (t .book) k
+  shaped = record {
+    least = omega (arith, z .least, h .directory-length);
+    most = omega (arith, z .most, h .directory-length);
+    some = z .some;
+    few = z .few;
+    size = h .book-length;
+  }
+
+  pub words : wordsOf (length (t .book)) ≡ k
+  words = shaped-words shaped
+
+  pub sized : Sized (t .book) k
+  sized = record { size = h .book-length; most = omega (arith, z .few) }
+
+  -- bytes that are not a message
+  pub step-unread : (s : List ℕ) (r : Refusal) → answer s ≡ read.Refused r
+      → applied (t .directory) (t .book) s ≡ unchanged (t .directory) (t .book) r
+  step-unread s r e = unread (t .directory) (t .book) s (shaped-good shaped) e
+
+  -- a message
+  pub step-read : (s : List ℕ) (x : Message) → answer s ≡ read.Good x
+      → applied (t .directory) (t .book) s
+      ≡ settled (t .directory) (t .book) k x (slotNamed (t .book) k (asked x)) (judged (t .directory) (t .book) k (asked x))
+  step-read s x e =
+      judgement (t .directory) (t .book) s (shaped-good shaped) e
+      ∙ ap (λ (i : ℕ). settled (t .directory) (t .book) i x (slotNamed (t .book) i (asked x)) (judged (t .directory) (t .book) i (asked x))) words
+
+  module _ (f : Fitting t) (s : List ℕ) (x : Message) (y : Bytes s) (e : answer s ≡ read.Good x) where
+    pub step-facts : Facts (t .directory) (t .book) k (asked x) (judged (t .directory) (t .book) k (asked x))
+    step-facts = facts (t .directory) (t .book) k (asked x) sized (f .book) (lawful s x y e)
+
+    pub step-moved : Moved (t .book) (onward t s .book) k (judged (t .directory) (t .book) k (asked x))
+    step-moved =
+        subst (λ (a : After). Moved (t .book) (a .book) k (judged (t .directory) (t .book) k (asked x))) (sym (step-read s x e))
+        (moved (t .directory) (t .book) k (asked x) sized (f .book) (lawful s x y e))
