@@ -17,27 +17,18 @@ use Rattle.fresh.specs.Fresh.{goodShapes, freshOf}
 use Rattle.runs.specs.Runs.{Tables, onward, answered, reached, said}
 use Rattle.runs.specs.Statements.{Run, Start, start, Alike, BothRoom, NeverFull, Agree}
 use Rattle.runs.specs.Healthy.{Fitting, healthy-start, fitting-start, fitting-onward}
+use Rattle.runs.specs.RunLaws.{fresh-total}
 use Rattle.runs.specs.AlikeAsks.{asks-alike}
 use Rattle.runs.specs.Alike.{alike-step}
 
 -- ---- the start
-
--- no slot of a fresh book is live
-fresh-free : (k s : ℕ) → s < 64 * k → live (replicate (257 * k) 0) s ≡ 0
-unfolding live
-fresh-free k s l =
-    ap (λ (x : ℕ). bit x (s % 64)) (getD-replicate (257 * k) (s / 64) 0 0 (omega arith)) ∙ bit-of-zero (s % 64)
-
--- so every total is 0
-pub fresh-total : (w : Held → ℕ) (k : ℕ) → total w (start 0 k .book) k ≡ 0
-fresh-total w k = none-total w (start 0 k .book) k λ s l e. absurd (omega (arith, e, fresh-free k s l))
 
 pub start-alike : (n k m : ℕ) → Start n k → Start n m → Alike n k m (start n k) (start n m)
 start-alike n k m z y = record {
   directory = refl;
   first = healthy-start n k z;
   second = healthy-start n m y;
-  orders = λ w. fresh-total w k ∙ sym (fresh-total w m);
+  orders = λ w. fresh-total w n k ∙ sym (fresh-total w n m);
 }
 
 -- ---- a run

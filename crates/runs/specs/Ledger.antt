@@ -24,10 +24,10 @@ pub record Line : Type 0 where
   pub event : Event
   pub figures : Figures
 
-abbrev line : ℕ → Event → Figures → Line
+abbrev pub line : ℕ → Event → Figures → Line
 line r e f = record { reference = r; event = e; figures = f }
 
-abbrev takenAs : Taking → Event
+abbrev pub takenAs : Taking → Event
 takenAs Executed = executed
 takenAs Cancelled = cancelled
 

@@ -24,24 +24,14 @@ use Rattle.moves.specs.Moved.{moved}
 use Rattle.moves.specs.Reads.{lawful}
 use Rattle.runs.specs.Runs.{Tables, onward}
 use Rattle.runs.specs.Statements.{Start, Healthy}
-use Rattle.runs.specs.Healthy.{Fitting}
+use Rattle.runs.specs.Healthy.{Fitting, healthy-shaped, healthy-sized}
 
 module _ {n k : ℕ} {t : Tables} (z : Start n k) (h : Healthy n k t) where
-  -- the shapes are good
-  pub shaped : Shaped (t .directory) (t .book) k
-  shaped = record {
-    least = omega (arith, z .least, h .directory-length);
-    most = omega (arith, z .most, h .directory-length);
-    some = z .some;
-    few = z .few;
-    size = h .book-length;
-  }
+  shaped : Shaped (t .directory) (t .book) k
+  shaped = healthy-shaped z h
 
   pub words : wordsOf (length (t .book)) ≡ k
   words = shaped-words shaped
-
-  pub sized : Sized (t .book) k
-  sized = record { size = h .book-length; most = omega (arith, z .few) }
 
   -- bytes that are not a message
   pub step-unread : (s : List ℕ) (r : Refusal) → answer s ≡ read.Refused r
@@ -58,9 +48,9 @@ module _ {n k : ℕ} {t : Tables} (z : Start n k) (h : Healthy n k t) where
 
   module _ (f : Fitting t) (s : List ℕ) (x : Message) (y : Bytes s) (e : answer s ≡ read.Good x) where
     pub step-facts : Facts (t .directory) (t .book) k (asked x) (judged (t .directory) (t .book) k (asked x))
-    step-facts = facts (t .directory) (t .book) k (asked x) sized (f .book) (lawful s x y e)
+    step-facts = facts (t .directory) (t .book) k (asked x) (healthy-sized z h) (f .book) (lawful s x y e)
 
     pub step-moved : Moved (t .book) (onward t s .book) k (judged (t .directory) (t .book) k (asked x))
     step-moved =
         subst (λ (a : After). Moved (t .book) (a .book) k (judged (t .directory) (t .book) k (asked x))) (sym (step-read s x e))
-        (moved (t .directory) (t .book) k (asked x) sized (f .book) (lawful s x y e))
+        (moved (t .directory) (t .book) k (asked x) (healthy-sized z h) (f .book) (lawful s x y e))

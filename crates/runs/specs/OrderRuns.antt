@@ -38,11 +38,11 @@ use Rattle.moves.specs.TotalMoves.{clear-held-total}
 use Rattle.moves.specs.Facts.{Facts}
 use Rattle.moves.specs.Altered.{altered-reference, altered-remaining}
 use Rattle.runs.specs.Runs.{Tables, reached, said}
-use Rattle.runs.specs.Ledger.{Event, added, executed, cancelled, closed, Line, linesOf, ledger, Life, noLife, booked, turned, life}
+use Rattle.runs.specs.Ledger.{Event, added, executed, cancelled, closed, Line, line, linesOf, ledger, Life, noLife, booked, turned, life}
 use Rattle.runs.specs.Statements.{Run, Start, start, Healthy, shown, ByOrder}
 use Rattle.runs.specs.Healthy.{healthy-start, fitting-start, healthy-shaped, healthy-sized, healthy-reached}
 use Rattle.runs.specs.RunLaws.{by-verdict, over-run, fresh-total}
-use Rattle.runs.specs.RunLaws.{line, Takes, take-line, taken-weight, starts-remaining, renewed-remaining}
+use Rattle.runs.specs.RunLaws.{Takes, take-line, taken-weight, starts-remaining, renewed-remaining}
 
 -- what remains of an order, if its reference is r
 abbrev pub onlyOf : ℕ → Held → ℕ

@@ -40,7 +40,7 @@ use Rattle.moves.specs.Moves.{takenOut, putIn}
 use Rattle.moves.specs.Facts.{Facts}
 use Rattle.moves.specs.Altered.{altered-reference}
 use Rattle.runs.specs.Runs.{Tables, onward, answered}
-use Rattle.runs.specs.Ledger.{Event, Line, linesOf, ofLevel}
+use Rattle.runs.specs.Ledger.{line, takenAs, Event, Line, linesOf, ofLevel}
 use Rattle.runs.specs.Ledger.Event.{added, executed, cancelled, closed}
 use Rattle.runs.specs.Statements.{Start, Healthy, Touches, Concerns, OnlyItsOwn}
 use Rattle.runs.specs.Healthy.{Fitting, healthy-onward}
@@ -50,19 +50,12 @@ use Rattle.runs.specs.AlikeAsks.{order-seen, level-stands, level-same}
 
 -- ---- the lines of an answer, by what was asked
 
-abbrev line : ℕ → Event → Figures → Line
-line r e f = record { reference = r; event = e; figures = f }
-
-abbrev tookAs : Taking → Event
-tookAs Executed = executed
-tookAs Cancelled = cancelled
-
 pub lines-start : (x : Message) (o : Order) (symbol : ℕ) (f : Figures) → asked x ≡ start o symbol
     → linesOf (Moved x f) ≡ line (o .reference .0) added f ∷ []
 lines-start x o symbol f e = rw e
 
 pub lines-take : (x : Message) (how : Taking) (r l n : ℕ) (f : Figures) → asked x ≡ take how r l n
-    → linesOf (Moved x f) ≡ line r (tookAs how) f ∷ []
+    → linesOf (Moved x f) ≡ line r (takenAs how) f ∷ []
 lines-take x Executed r l n f e = rw e
 lines-take x Cancelled r l n f e = rw e
 
@@ -105,7 +98,7 @@ quiet w d b k x (enter o) f h =
     )
 quiet w d b k x (alter o o′ n) f h =
     let y = figuresOf o n (remaining o′) in
-    let at = line (f .reference) (tookAs (f .how)) y in
+    let at = line (f .reference) (takenAs (f .how)) y in
     let e = lines-take x (f .how) (f .reference) (f .locate) n y (f .asks) in
     let in-lines : Among at (linesOf (Moved x y)) = subst (λ (xs : List Line). Among at xs) (sym e) (here refl) in
     let before = h o (record { by = at; among = in-lines; reference = sym (f .rests .reference); level = λ l side p. refl }) in

@@ -41,7 +41,7 @@ use Rattle.moves.specs.Judged.{facts}
 use Rattle.moves.specs.Moved.{moves}
 use Rattle.moves.specs.Reads.{lawful}
 use Rattle.runs.specs.Runs.{Tables, onward, answered, reached, said}
-use Rattle.runs.specs.Ledger.{Event, added, executed, cancelled, closed, Line, linesOf, ledger}
+use Rattle.runs.specs.Ledger.{Event, added, executed, cancelled, closed, Line, line, linesOf, ledger}
 use Rattle.runs.specs.Statements.{Run, Start, start, Healthy}
 use Rattle.runs.specs.Healthy.{Fitting, healthy-onward, fitting-onward, healthy-shaped, healthy-sized}
 
@@ -104,9 +104,6 @@ fresh-total w n k = none-total w (replicate (257 * k) 0) k λ s l e. absurd (nev
         omega (arith, e, ap (λ (x : ℕ). bit x (s % 64)) z, bit-of-zero (s % 64))
 
 -- ---- the lines of the ledger
-
-abbrev pub line : ℕ → Event → Figures → Line
-line r e f = record { reference = r; event = e; figures = f }
 
 -- events that take shares away
 abbrev pub Takes : Event → Type 0
