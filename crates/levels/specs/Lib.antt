@@ -1,5 +1,9 @@
 pub mod Answers
 pub mod Asks
+pub mod Compare
+pub mod GlanceLaws
+pub mod Glances
+pub mod Letters
 pub mod Levels
 pub mod Meaning
 pub mod Seen

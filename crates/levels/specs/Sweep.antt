@@ -14,13 +14,12 @@ use Rattle.laws.specs.Bit.{bit, bit-of-zero, trailing-zero, trailing-one, trail
 use Rattle.laws.specs.Least.{same-or, lt-or-le}
 use Rattle.book.specs.Book.{live}
 use Rattle.book.specs.Words.{live-word}
-use Rattle.orders.specs.declared.Order.{Order}
-use Rattle.orders.specs.declared.Held.the-variants.{Sound, Unsound}
+use Rattle.orders.specs.declared.Held.the-variants.{Unsound}
 use Rattle.decide.specs.Stored.{heldAt}
 use Rattle.levels.specs.declared.Wanted.{Wanted}
 use Rattle.levels.specs.declared.Best.{Best}
 use Rattle.levels.specs.declared.Pass.the-variants as pass
-use Rattle.levels.specs.Visits.{considered, seen, visited}
+use Rattle.levels.specs.Visits.{seen, visited}
 use Rattle.levels.specs.VisitLaws.{free-slots, live-slot, unsound-stays, Small, small}
 
 -- after the slots of map number j below `past`: what was seen is `best`, and m has the one bits that are left
@@ -103,17 +102,17 @@ module _ (w : Wanted) (b : List ℕ) (k j : ℕ) where
           let e : 64 * j + suc t + (64 - suc t) ≡ 64 * (j + 1) = omega arith in
           sym (unsound-stays w b k (64 * j + suc t) (64 - suc t) (next-seen ∙ ap (seen w (pass.Seen best)) h)) ∙ ap (visited w b k) e
 
-      -- the slot holds an order
-      pub sweep-more : (o : Order) (more : Best) → heldAt b k (64 * j + trailingZeros 64 m) ≡ Sound o → more ≡ considered w best o
+      -- it is not
+      pub sweep-more : (more : Best) → seen w (pass.Seen best) (heldAt b k (64 * j + trailingZeros 64 m)) ≡ pass.Seen more
           → Sweep w b k j more (bitAnd m (m - 1))
-      sweep-more o more h r =
+      sweep-more more r =
           let t = trailingZeros 64 m in
           let e = and-pred 64 m (s .fits) n in
           rw e (record {
             past = suc t;
             most = next-lt;
             fits = lt-of-le-of-lt (omega arith) (s .fits);
-            done = next-seen ∙ ap (seen w (pass.Seen best)) h ∙ ap pass.Seen (sym r);
+            done = next-seen ∙ r;
             gone = λ i l. ⊎-elim
                 (λ d. ap (bit (m - 2 ^ t)) d ∙ clear-same t m next-bit)
                 (λ d. clear-other t m i d next-bit ∙ trailing-zero 64 m i (omega arith))

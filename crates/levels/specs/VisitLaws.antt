@@ -1,5 +1,5 @@
--- The laws of one pass: what an order that is considered changes, what a free slot, a live one and an unsound one do to what was
--- seen, and that its sums stay small. Assumes nothing.
+-- The laws of one pass: what a free slot, a live one and an unsound one do to what was seen, and that its sums stay small. Assumes
+-- nothing.
 use Prim.Native.Nat.{ℕ, zero, suc, _+_, _-_, _*_, _≤_, _<_}
 use mathlib.Core.Path.{_≡_, refl, sym, ap, _∙_}
 use mathlib.Core.Bool.{Bool, true, false, cond}
@@ -7,7 +7,7 @@ use mathlib.Core.List.{List}
 use native.Mathlib.Nat.{add-suc, add-zero}
 use native.Mathlib.Omega.{arith}
 use lib.Dec.{eqb, ltb}
-use borrow.Author.Tests.{eq-eqb, ne-eqb, le-leb, lt-leb, lt-ltb, le-ltb}
+use borrow.Author.Tests.{eq-eqb, ne-eqb}
 use Rattle.book.specs.Book.{live, numberAt}
 use Rattle.orders.specs.declared.Order.{Order}
 use Rattle.orders.specs.declared.Held.{Held}
@@ -19,56 +19,8 @@ use Rattle.levels.specs.declared.Wanted.{Wanted}
 use Rattle.levels.specs.declared.Best.{Best}
 use Rattle.levels.specs.declared.Pass.{Pass}
 use Rattle.levels.specs.declared.Pass.the-variants as pass
-use Rattle.levels.specs.Levels.{sameSide, stepsTo}
-use Rattle.levels.specs.Visits.{isWanted, joined, considered, seen, begun, visited}
-
--- ---- an order that is considered
-
--- the order is of the stock and the side, and stands at so many steps
-pub record Near (w : Wanted) (o : Order) (steps : ℕ) : Type 0 where
-  pub stock : o .locate .0 ≡ w .locate .0
-  pub side : sameSide (o .side) (w .side) ≡ true
-  pub price : steps ≡ stepsTo (w .side) (o .price .0)
-
-pub other-stock : (w : Wanted) (best : Best) (o : Order) → (o .locate .0 ≡ w .locate .0 → ⊥) → best ≡ considered w best o
-unfolding considered
-other-stock w best o d = rw (ne-eqb (o .locate .0) (w .locate .0) d)
-
-pub other-side : (w : Wanted) (best : Best) (o : Order) → o .locate .0 ≡ w .locate .0 → sameSide (o .side) (w .side) ≡ false
-    → best ≡ considered w best o
-unfolding considered
-other-side w best o e s = rw (eq-eqb (o .locate .0) (w .locate .0) e, s)
-
-module _ (w : Wanted) (best : Best) (o : Order) (steps : ℕ) (near : Near w o steps) where
-  pub before-from : steps < w .from → best ≡ considered w best o
-  unfolding considered
-  before-from l =
-      rw (eq-eqb (o .locate .0) (w .locate .0) (near .stock), near .side)
-      (rw (← near .price) (rw (lt-leb (w .from) steps l)))
-
-  pub past-to : w .from ≤ steps → w .to ≤ steps → best ≡ considered w best o
-  unfolding considered
-  past-to f l =
-      rw (eq-eqb (o .locate .0) (w .locate .0) (near .stock), near .side)
-      (rw (← near .price) (rw (le-leb (w .from) steps f, le-ltb steps (w .to) l)))
-
-  module _ (f : w .from ≤ steps) (l : steps < w .to) where
-    wanted : considered w best o ≡ joined best steps (remaining o)
-    unfolding considered
-    wanted =
-        rw (eq-eqb (o .locate .0) (w .locate .0) (near .stock), near .side)
-        (rw (← near .price) (rw (le-leb (w .from) steps f, lt-ltb steps (w .to) l)))
-
-    pub better : (shares : ℕ) → shares ≡ remaining o → steps < best .steps
-        → record { steps = steps; shares = shares; orders = 1 } ≡ considered w best o
-    better shares e b = rw (wanted, lt-ltb steps (best .steps) b, e)
-
-    pub as-good : (shares : ℕ) → shares ≡ remaining o → steps ≡ best .steps
-        → record { steps = steps; shares = best .shares + shares; orders = best .orders + 1 } ≡ considered w best o
-    as-good shares e b = rw (wanted, le-ltb steps (best .steps) (omega arith), eq-eqb steps (best .steps) b, e)
-
-    pub worse : best .steps ≤ steps → (steps ≡ best .steps → ⊥) → best ≡ considered w best o
-    worse b d = rw (wanted, le-ltb steps (best .steps) b, ne-eqb steps (best .steps) d)
+use Rattle.levels.specs.Levels.{stepsTo}
+use Rattle.levels.specs.Visits.{isWanted, considered, seen, begun, visited}
 
 -- ---- slot by slot
 
@@ -120,16 +72,12 @@ pub record Small (n : ℕ) (x : Best) : Type 0 where
   pub shares : x .shares ≤ n * 4294967295
   pub orders : x .orders ≤ n
 
--- what a live slot holds: no more than 32 bits of shares, of which some may be gone
-pub record HeldSmall (o : Order) : Type 0 where
-  pub spent : o .executed + o .cancelled + o .closed ≤ o .added
-  pub remains : remaining o ≤ 4294967295
-
-pub held-small : (b : List ℕ) (k s : ℕ) (o : Order) → heldAt b k s ≡ Sound o → HeldSmall o
+-- what a live slot holds: no more than 32 bits of shares
+held-small : (b : List ℕ) (k s : ℕ) (o : Order) → heldAt b k s ≡ Sound o → remaining o ≤ 4294967295
 unfolding heldAt remaining
 held-small b k s o e =
     let h = held-sound (numberAt b k s 0) (numberAt b k s 1) (numberAt b k s 2) (numberAt b k s 3) o e in
-    record { spent = omega arith; remains = omega arith }
+    omega (arith, h .added)
 
 -- of whichever of three the tests pick, what holds of all
 picked : (f : Best → ℕ) (n : ℕ) (x y z : Best) → f x ≤ n → f y ≤ n → f z ≤ n → (t u v : Bool) → f (cond t (cond u x (cond v y z)) z) ≤ n
@@ -158,7 +106,7 @@ module _ (w : Wanted) where
       (isWanted w o) (ltb steps (best .steps)) (eqb steps (best .steps))
 
   small-more : (n : ℕ) (p : Pass) (h : Held) (x : Best) → ((y : Best) → p ≡ pass.Seen y → Small n y)
-      → ((o : Order) → h ≡ Sound o → HeldSmall o) → seen w p h ≡ pass.Seen x → Small (suc n) x
+      → ((o : Order) → h ≡ Sound o → remaining o ≤ 4294967295) → seen w p h ≡ pass.Seen x → Small (suc n) x
   small-more n pass.Unsound h x ih held e = let z : _≡_ {A = ℕ} 0 1 = cc in absurd (omega arith)
   small-more n (pass.Seen y) Unsound x ih held e = let z : _≡_ {A = ℕ} 0 1 = cc in absurd (omega arith)
   small-more n (pass.Seen y) (Sound o) x ih held e =

@@ -1,10 +1,14 @@
 // The questions about levels: one pass over the live slots of the book, by map words, for the best price of those wanted. It is
 // lent the book alone.
 ghost use mathlib.Core.Path.{_≡_};
-ghost use Prim.Native.Nat.{_+_, _*_, _≤_, _<_};
+ghost use Prim.Native.Nat.{ℕ, _+_, _*_, _≤_, _<_, min};
 ghost use Rattle.book.specs.Shape.{Sized};
-ghost use Rattle.levels.specs.Levels.{sameSide, stepsTo};
-ghost use Rattle.levels.specs.Visits.{considered, visited};
+ghost use Rattle.messages.specs.Numbers.{sideByte};
+ghost use Rattle.orders.specs.Order.{held};
+ghost use Rattle.decide.specs.Stored.{heldAt};
+ghost use Rattle.levels.specs.Levels.{stepsTo};
+ghost use Rattle.levels.specs.Visits.{joined, visited};
+ghost use Rattle.levels.specs.Glances.{Based, glanced, lettered, roomOf};
 
 pub mod questions;
 
@@ -12,8 +16,6 @@ use kinds::Locate;
 use kinds::Side;
 use kinds::Slot;
 use messages::Refusal;
-use orders::Held;
-use orders::Order;
 
 // A price with what remains of the orders that stand there, and how many they are.
 pub struct Level {
@@ -56,19 +58,12 @@ pub enum Pass {
     Seen(Best),
 }
 
-fn same_side(a: Side, b: Side) -> bool
-    ensures { λ r. ⌜ r ≡ sameSide a b ⌝ }
-{
-    match a {
-        Side::Buy => match b {
-            Side::Buy => true,
-            Side::Sell => false,
-        },
-        Side::Sell => match b {
-            Side::Buy => false,
-            Side::Sell => true,
-        },
-    }
+// What a live slot is to a pass: unsound, nothing, or an order wanted at a price no worse than the best so far, so many steps from
+// the best possible and with so many shares.
+pub enum Glimpse {
+    Unsound,
+    Other,
+    Stands(u64, u32),
 }
 
 // How many steps a price is from the best one possible.
@@ -81,46 +76,130 @@ fn steps_to(side: Side, price: u32) -> u64
     }
 }
 
-// The best so far, with one more order.
-fn consider(w: Wanted, best: Best, o: Order) -> Best
-    requires { ⌜ (best .shares ≤ 1000000000000000000) × (best .orders ≤ 1000000000000000000) × (o .executed + o .cancelled + o .closed ≤ o .added) ⌝ }
-    ensures { λ r. ⌜ r ≡ considered w best o ⌝ }
+fn letter_of(side: Side) -> u64
+    ensures { λ r. ⌜ (r ≡ sideByte side) × (r < 256) ⌝ }
 {
-    let wanted = w.locate;
-    let own = o.locate;
-    if own.0 != wanted.0 {
-        return best;
+    match side {
+        Side::Buy => 66,
+        Side::Sell => 83,
+    }
+}
+
+// Where the steps of what is wanted begin, in one number with the locate and the side as a slot has them; any number where they
+// begin past all prices.
+fn base_of(w: Wanted) -> u64
+    ensures { λ r. ⌜ Based w r ⌝ }
+{
+    let locate = w.locate;
+    let side = w.side;
+    if 4294967296 <= w.from {
+        return 0;
+    }
+    ((locate.0 as u64) * 256 + letter_of(side)) * 1099511627776 + w.from
+}
+
+fn lesser(a: u64, b: u64) -> u64
+    ensures { λ r. ⌜ r ≡ min a b ⌝ }
+{
+    if a < b { a } else { b }
+}
+
+// How many steps from there on are wanted and no worse than the step `most`.
+fn room_of(w: Wanted, most: u64) -> u64
+    ensures { λ r. ⌜ r ≡ roomOf w most ⌝ }
+{
+    let from = w.from;
+    let to = lesser(w.to, 4294967296);
+    let past = lesser(most, 4294967296) + 1;
+    let end = lesser(to, past);
+    if end <= from {
+        return 0;
+    }
+    end - from
+}
+
+// The side, the attribution and the low byte of a slot's fourth number, one after the other.
+fn spelled(n3: u64) -> bool
+    ensures { λ r. ⌜ r ≡ lettered n3 ⌝ }
+{
+    let byte = n3 / 1099511627776 % 256;
+    if byte != 66 + 17 * (byte % 2) {
+        return false;
+    }
+    if n3 % 256 != 0 {
+        return false;
+    }
+    text::text4((n3 / 256 % 4294967296) as u32) == 0
+}
+
+// B or S with NSDQ and a low byte of 0, as most orders have, are known by one compare that does not branch on the side.
+fn lettered(n3: u64) -> bool
+    ensures { λ r. ⌜ r ≡ lettered n3 ⌝ }
+{
+    if n3 % 281474976710656 == 72904171868416 + n3 / 1099511627776 % 2 * 18691697672192 {
+        return true;
+    }
+    spelled(n3)
+}
+
+// What a live slot with these numbers is to a pass. Whether it is wanted, and no worse than the step `most`, is one compare:
+// branches on the locate, the side and the price would often be predicted wrongly.
+fn weigh(n1: u64, n2: u64, n3: u64, w: Wanted, most: u64, base: u64, room: u64) -> Glimpse
+    requires { ⌜ Based w base × (room ≡ roomOf w most) ⌝ }
+    ensures { λ r. ⌜ ((n0 : ℕ) → r ≡ glanced w most (held n0 n1 n2 n3)) ⌝ }
+{
+    let added = n1 % 4294967296;
+    let gone = n2 / 4294967296 + n2 % 4294967296;
+    if 8589934596294967295 < n1 {
+        return Glimpse::Unsound;
+    }
+    if n3 < 281474976710656 {
+        return Glimpse::Unsound;
+    }
+    if added <= gone {
+        return Glimpse::Unsound;
+    }
+    let good = lettered(n3);
+    if !good {
+        return Glimpse::Unsound;
     }
     let side = w.side;
-    let its = o.side;
-    let same = same_side(its, side);
-    if !same {
-        return best;
+    let steps = steps_to(side, (n1 / 4294967296) as u32);
+    let past = std::num::wrapping_sub_u64(n3 - n3 % 1099511627776 + steps, base);
+    if past < room {
+        return Glimpse::Stands(steps, (added - gone) as u32);
     }
-    let price = o.price;
-    let steps = steps_to(side, price.0);
-    if steps < w.from {
-        return best;
-    }
-    if w.to <= steps {
-        return best;
-    }
-    let shares = o.remaining() as u64;
+    Glimpse::Other
+}
+
+// What a live slot is to a pass.
+fn glance(book: &[u64], k: usize, slot: Slot, w: Wanted, most: u64, base: u64, room: u64) -> Glimpse
+    requires { ⌜ Sized (now book) k × (slot .0 < 64 * k) × Based w base × (room ≡ roomOf w most) ⌝ }
+    ensures { λ r. ⌜ r ≡ glanced w most (heldAt (now (book .entry)) k (slot .0)) ⌝ }
+{
+    let n1 = book::number_at(book, k, slot, 1);
+    let n2 = book::number_at(book, k, slot, 2);
+    let n3 = book::number_at(book, k, slot, 3);
+    weigh(n1, n2, n3, w, most, base, room)
+}
+
+// The best so far, with one more order that is no worse.
+fn join(best: Best, steps: u64, shares: u32) -> Best
+    requires { ⌜ (best .shares ≤ 1000000000000000000) × (best .orders ≤ 1000000000000000000) × (steps ≤ best .steps) ⌝ }
+    ensures { λ r. ⌜ r ≡ joined best steps shares ⌝ }
+{
     if steps < best.steps {
         return Best {
             steps,
-            shares,
+            shares: shares as u64,
             orders: 1,
         };
     }
-    if steps == best.steps {
-        return Best {
-            steps,
-            shares: best.shares + shares,
-            orders: best.orders + 1,
-        };
+    Best {
+        steps,
+        shares: best.shares + (shares as u64),
+        orders: best.orders + 1,
     }
-    best
 }
 
 // The pass over the live slots of map number j, by its one bits.
@@ -128,15 +207,23 @@ fn scan_word(book: &[u64], k: usize, j: usize, w: Wanted, best: Best) -> Pass
     requires { ⌜ Sized (now book) k × (j < k) × (visited w (now book) k (64 * j) ≡ Pass.Seen best) ⌝ }
     ensures { λ r. ⌜ r ≡ visited w (now (book .entry)) k (64 * (j + 1)) ⌝ }
 {
+    let base = base_of(w);
     let mut now = best;
+    let mut room = room_of(w, now.steps);
     let mut m = book[j];
     while m != 0 {
         let t = u64::trailing_zeros(m) as usize;
-        let held = slots::held_at(book, k, Slot(64 * j + t));
-        let Held::Sound(o) = held else {
-            return Pass::Unsound;
-        };
-        now = consider(w, now, o);
+        let glimpse = glance(book, k, Slot(64 * j + t), w, now.steps, base, room);
+        match glimpse {
+            Glimpse::Unsound => {
+                return Pass::Unsound;
+            }
+            Glimpse::Other => {}
+            Glimpse::Stands(steps, shares) => {
+                now = join(now, steps, shares);
+                room = room_of(w, now.steps);
+            }
+        }
         m = m & (m - 1);
     }
     Pass::Seen(now)
