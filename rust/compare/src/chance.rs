@@ -1,6 +1,6 @@
 //! Random and changed messages, the same in every run.
 
-use crate::tally::{Checker, Tally};
+use crate::tally::Checker;
 use samples::{random_message, spoil, Layout, Random, LAYOUTS};
 
 const SEED: u64 = 0x4C61_646C_656D_6F73;
@@ -17,14 +17,14 @@ const WAYS: [(&str, Way); 5] = [
 ];
 
 /// That many inputs, shared out evenly among the ways.
-pub fn random_inputs(tally: &mut Tally, count: u64) {
+pub fn random_inputs(checker: &mut impl Checker, count: u64) {
     let mut random = Random::new(SEED);
     for (turn, (name, way)) in WAYS.iter().enumerate() {
-        tally.source(name);
+        checker.source(name);
         let (ways, turn) = (WAYS.len() as u64, turn as u64);
         for _ in 0..(count + ways - 1 - turn) / ways {
             let layout = *random.one_of(&LAYOUTS);
-            tally.check(&way(&layout, &mut random));
+            checker.check(&way(&layout, &mut random));
         }
     }
 }

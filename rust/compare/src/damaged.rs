@@ -10,6 +10,9 @@ const SEED: u64 = 0x6461_6D61_6765_6421;
 const TRIAL: u64 = 24;
 const ROUND: u64 = 6;
 
+/// Messages between two rounds of questions.
+const ASKED: u64 = 12;
+
 /// That many messages.
 pub fn damaged(desk: &mut Desk, ledger: &mut Ledger, count: u64) {
     ledger.source("apply: over damaged tables");
@@ -32,6 +35,9 @@ fn trial(desk: &mut Desk, ledger: &mut Ledger, messages: u64, random: &mut Rando
     let mut flow = Flow::new(length, book.slots());
     for turn in 0..messages {
         if turn % ROUND == 0 {
+            if turn % ASKED == 0 {
+                desk.ask(ledger);
+            }
             if turn > 0 {
                 damage_again(desk, groups, stocks, random);
             }

@@ -1,17 +1,20 @@
 //! The product's tables in guarded memory beside the second program's, both given each message.
 
-use crate::guard::{Edge, Guarded};
+use crate::asker::{Asker, Scene};
+use crate::guard::{Edge, Guarded, PATTERN};
 use crate::ledger::Ledger;
 use crate::lent::Lent;
 use crate::outcome::{Answer, Outcome};
 use crate::own::Own;
+use crate::round::round;
 use crate::tally::{Checker, LONGEST};
 use samples::Random;
 
 const SEED: u64 = 0x6564_6765_735F_5F21;
 
-/// What memory holds before the product writes there.
-const PATTERN: u64 = 0xA5A5_A5A5_A5A5_A5A5;
+/// Orders and levels asked about at one go, in all slots together: few where the book is large.
+const ASKED: usize = 4_096;
+const LEAST_ASKED: usize = 4;
 
 /// Both sides with the same tables.
 pub struct Desk {
@@ -23,6 +26,7 @@ pub struct Desk {
     own: Own,
     /// Chooses the edges.
     random: Random,
+    pub asker: Asker,
 }
 
 impl Desk {
@@ -35,6 +39,7 @@ impl Desk {
             figures: Guarded::new(size_of::<[u64; 10]>()),
             own: Own::new(&[], &[]),
             random: Random::new(SEED),
+            asker: Asker::new(),
         }
     }
 
@@ -50,15 +55,40 @@ impl Desk {
         self.own.numbers()
     }
 
+    /// Asks both sides about the book as it stands.
+    pub fn ask(&mut self, ledger: &Ledger) {
+        self.asker.counts.source = ledger.current();
+        let (_, numbers) = self.own.numbers();
+        let Own::Tables(tables) = &self.own else {
+            return;
+        };
+        let most = ASKED / tables.book().slots().len();
+        let mut scene = Scene {
+            own: Ok(tables.book()),
+            lent: &mut self.book,
+            numbers: &numbers,
+        };
+        round(&mut self.asker, &mut scene, most.max(LEAST_ASKED));
+    }
+
+    /// Asks both sides for the symbol of a message by the directory as it stands.
+    fn symbol(&mut self, ledger: &Ledger, bytes: &[u8]) {
+        self.asker.counts.source = ledger.current();
+        if let Own::Tables(tables) = &self.own {
+            let own = Ok(tables.directory());
+            self.asker.symbol(own, &mut self.directory, bytes);
+        }
+    }
+
     /// Gives both sides a message, compares everything, and answers the second program's number.
     pub fn apply(&mut self, ledger: &mut Ledger, bytes: &[u8]) -> u8 {
+        self.symbol(ledger, bytes);
         let expected = self.own.apply(bytes);
         let random = &mut self.random;
         let input = self.input.part(bytes.len(), Edge::any(random));
         input.copy_from_slice(bytes);
         let out = self.out.numbers(Edge::any(random));
         let figures = self.figures.numbers(Edge::any(random));
-        // Any number that is not overwritten stays visible.
         out.fill(PATTERN);
         figures.fill(PATTERN);
         let (directory, book) = (self.directory.numbers(), self.book.numbers());

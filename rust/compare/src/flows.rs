@@ -28,6 +28,9 @@ const STREAM: u64 = 1_000;
 /// After so many messages the flow strives for another number of live orders.
 const SPELL: u64 = 100;
 
+/// Messages between two rounds of questions.
+const ASKED: u64 = 200;
+
 /// How a stream begins and goes on.
 struct Habits {
     /// Of a hundred messages, so many are changed or made up.
@@ -80,6 +83,9 @@ fn streams(desk: &mut Desk, ledger: &mut Ledger, count: u64, habits: &Habits, se
             let message = next(&mut flow, habits, &mut random);
             if desk.apply(ledger, &message) == 0 {
                 flow.learn(&message);
+            }
+            if turn % ASKED == ASKED - 1 {
+                desk.ask(ledger);
             }
         }
         if left == 0 {

@@ -21,6 +21,9 @@ const PROT_NONE: i32 = 0;
 const PROT_READ_WRITE: i32 = 1 | 2;
 const MAP_PRIVATE_ANONYMOUS: i32 = 0x02 | 0x20;
 
+/// What memory holds before the product writes there, so that what it leaves out stays visible.
+pub const PATTERN: u64 = 0xA5A5_A5A5_A5A5_A5A5;
+
 /// A multiple of every usual page size.
 const PAGE: usize = 0x1_0000;
 

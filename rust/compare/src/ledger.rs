@@ -35,6 +35,11 @@ impl Ledger {
         self.sources.push((name, 0));
     }
 
+    /// The source that was named last.
+    pub fn current(&self) -> &'static str {
+        self.sources.last().expect("a source is named first").0
+    }
+
     /// Takes down a message that was applied.
     pub fn applied(&mut self, bytes: &[u8], outcome: &Outcome) {
         let number = outcome.expected.0;
@@ -63,7 +68,7 @@ impl Ledger {
         if self.mismatches > SHOWN {
             return;
         }
-        let (source, _) = self.sources.last().expect("a source is named first");
+        let source = self.current();
         let (directory, book) = outcome.lengths;
         println!("MISMATCH in {source}, directory of {directory}, book of {book}");
         println!("  {call}");

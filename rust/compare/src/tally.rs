@@ -1,6 +1,6 @@
 //! Asks both readers about an input and keeps the count of what was met.
 
-use crate::guard::{Edge, Guarded};
+use crate::guard::{Edge, Guarded, PATTERN};
 use crate::report::{hex, shown, SHOWN};
 
 /// No input is longer than this.
@@ -68,8 +68,7 @@ impl Tally {
         let input = self.input.part(message.len(), edge);
         input.copy_from_slice(message);
         let out = self.out.numbers(edge);
-        // Any number that is not overwritten stays visible.
-        out.fill(0xA5A5_A5A5_A5A5_A5A5);
+        out.fill(PATTERN);
         let number = face::read(input, out);
         ((number, *out), input == message)
     }

@@ -1,7 +1,7 @@
 //! The book: its map, its slots in groups of one map number, the search and the lowest free slot.
 
 /// Four numbers a slot, 64 slots a map number.
-type Group = [[u64; 4]; 64];
+pub type Group = [[u64; 4]; 64];
 
 /// A lent book of a good length; EIGHTS says how a reference is searched for.
 pub struct Book<'a, const EIGHTS: bool> {
@@ -12,37 +12,23 @@ pub struct Book<'a, const EIGHTS: bool> {
 /// A slot by its map number and its bit there.
 #[derive(Clone, Copy)]
 pub struct Slot {
-    group: usize,
-    bit: usize,
+    pub group: usize,
+    pub bit: usize,
 }
 
 impl<'a, const EIGHTS: bool> Book<'a, EIGHTS> {
     /// None if no book has that many numbers.
     #[inline(always)]
     pub fn lent(numbers: &'a mut [u64]) -> Option<Self> {
-        let words = numbers.len() / 257;
-        if !numbers.len().is_multiple_of(257) || words == 0 || words > 64 {
-            return None;
-        }
-        let (map, slots) = numbers.split_at_mut(words);
+        let (map, slots) = numbers.split_at_mut(words(numbers.len())?);
         let groups = slots.as_chunks_mut::<4>().0.as_chunks_mut::<64>().0;
         Some(Book { map, groups })
     }
 
     /// The lowest live slot that holds the reference.
-    #[inline]
+    #[inline(always)]
     pub fn find(&self, reference: u64) -> Option<Slot> {
-        for (group, (&live, slots)) in self.map.iter().zip(&*self.groups).enumerate() {
-            let bit = if EIGHTS && dense(live) {
-                by_eights(live, slots, reference)
-            } else {
-                by_bits(live, slots, reference)
-            };
-            if let Some(bit) = bit {
-                return Some(Slot { group, bit });
-            }
-        }
-        None
+        find::<EIGHTS>(self.map, self.groups, reference)
     }
 
     /// The lowest free slot, tried slot by slot.
@@ -76,6 +62,36 @@ impl<'a, const EIGHTS: bool> Book<'a, EIGHTS> {
         self.map[slot.group] &= !(1 << slot.bit);
         *self.slot(slot) = [0; 4];
     }
+}
+
+/// The map and the groups of a book that is only read; none if no book has that many numbers.
+#[inline(always)]
+pub fn parts(numbers: &[u64]) -> Option<(&[u64], &[Group])> {
+    let (map, slots) = numbers.split_at(words(numbers.len())?);
+    Some((map, slots.as_chunks::<4>().0.as_chunks::<64>().0))
+}
+
+/// Map numbers of a book of that many numbers.
+#[inline(always)]
+fn words(length: usize) -> Option<usize> {
+    let words = length / 257;
+    (length.is_multiple_of(257) && words != 0 && words <= 64).then_some(words)
+}
+
+/// The lowest live slot that holds the reference.
+#[inline]
+pub fn find<const EIGHTS: bool>(map: &[u64], groups: &[Group], reference: u64) -> Option<Slot> {
+    for (group, (&live, slots)) in map.iter().zip(groups).enumerate() {
+        let bit = if EIGHTS && dense(live) {
+            by_eights(live, slots, reference)
+        } else {
+            by_bits(live, slots, reference)
+        };
+        if let Some(bit) = bit {
+            return Some(Slot { group, bit });
+        }
+    }
+    None
 }
 
 /// From live slot to live slot.

@@ -1,4 +1,5 @@
-//! The calls `read` and `apply` written for speed, the measure that the product is held against.
+//! The calls `read` and `apply` and the desk's questions written for speed, the measure that the
+//! product is held against.
 //!
 //! The same answers as the second program's reader: fixed offsets after one length test, whole
 //! words loaded at once, text checked eight bytes at a time. It knows nothing of the product.
@@ -11,6 +12,8 @@ mod life;
 mod message;
 mod numbers;
 mod orders;
+mod questions;
+mod scan;
 mod steps;
 mod stock;
 mod trades;
@@ -19,6 +22,9 @@ pub use apply::{apply_numbers, apply_numbers_by_eights};
 pub use message::Message;
 pub use numbers::{read_numbers, read_numbers_by_enum};
 pub use orders::*;
+pub use questions::{
+    best_numbers, level_numbers, live_numbers, next_numbers, order_numbers, order_numbers_by_eights,
+};
 pub use stock::*;
 pub use trades::*;
 

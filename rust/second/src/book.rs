@@ -1,6 +1,7 @@
 //! The book: slots, each with an order's numbers and whether it is live.
 
 use crate::order::Order;
+use crate::SHAPE;
 
 /// Slots of one number of the map.
 const GROUP: usize = 64;
@@ -28,8 +29,16 @@ impl Book {
         (1..=MOST_GROUPS).any(|groups| length == GROUP_NUMBERS * groups)
     }
 
-    /// Takes over any numbers; the caller has seen to their length.
-    pub(crate) fn from_numbers(numbers: &[u64]) -> Self {
+    /// Takes over any numbers, or refuses their length with 14.
+    pub fn lent(numbers: &[u64]) -> Result<Self, u8> {
+        match Book::is_length(numbers.len()) {
+            true => Ok(Book::from_numbers(numbers)),
+            false => Err(SHAPE),
+        }
+    }
+
+    /// The caller has seen to the length.
+    fn from_numbers(numbers: &[u64]) -> Self {
         let (map, rest) = numbers.split_at(numbers.len() / GROUP_NUMBERS);
         let slots = rest.chunks_exact(4).enumerate().map(|(place, four)| Slot {
             live: map[place / GROUP] >> (place % GROUP) & 1 == 1,

@@ -1,5 +1,7 @@
 //! The directory: the symbol that each locate is registered with.
 
+use crate::SHAPE;
+
 /// Symbols by their locates.
 #[derive(Clone, Debug, PartialEq, Eq)]
 pub struct Directory {
@@ -39,8 +41,16 @@ impl Directory {
         (2..=8_192).contains(&length)
     }
 
-    /// Takes over any numbers; the caller has seen to their length.
-    pub(crate) fn from_numbers(numbers: &[u64]) -> Self {
+    /// Takes over any numbers, or refuses their length with 14.
+    pub fn lent(numbers: &[u64]) -> Result<Self, u8> {
+        match Directory::is_length(numbers.len()) {
+            true => Ok(Directory::from_numbers(numbers)),
+            false => Err(SHAPE),
+        }
+    }
+
+    /// The caller has seen to the length.
+    fn from_numbers(numbers: &[u64]) -> Self {
         let (&number_0, entries) = numbers.split_first().expect("at least 2 numbers");
         Directory {
             number_0,

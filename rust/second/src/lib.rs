@@ -1,4 +1,5 @@
-//! The independent second program: one TotalView-ITCH 5.0 message read, and applied to the tables.
+//! The independent second program: one TotalView-ITCH 5.0 message read, and applied to the tables;
+//! and the desk's questions about them.
 //!
 //! Written from the papers alone, to be held against the product: plain and slow, one field after
 //! the other and one slot after the other. It knows nothing of packets, and nothing of the product.
@@ -11,8 +12,10 @@ mod fields;
 mod message;
 mod order;
 mod orders;
+pub mod questions;
 mod steps;
 mod stock;
+mod symbol;
 mod tables;
 mod trades;
 
@@ -23,7 +26,9 @@ pub use fields::{Alpha, Price, Printable, Shares, Side, Text, Timestamp, DAY, MA
 pub use message::Message;
 pub use order::{Order, NSDQ};
 pub use orders::*;
+pub use questions::{Account, Level};
 pub use stock::*;
+pub use symbol::symbol;
 pub use tables::{apply, fresh, Tables};
 pub use trades::*;
 

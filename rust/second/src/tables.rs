@@ -3,7 +3,9 @@
 use crate::applied::Applied;
 use crate::book::Book;
 use crate::directory::Directory;
+use crate::questions::{Account, Level};
 use crate::{message_of, SHAPE};
+use std::ops::Range;
 
 /// A directory and a book of the paper's lengths, with any contents.
 #[derive(Clone, Debug, PartialEq, Eq)]
@@ -15,12 +17,9 @@ pub struct Tables {
 impl Tables {
     /// Starts from any numbers, or refuses their lengths with 14.
     pub fn from_numbers(directory: &[u64], book: &[u64]) -> Result<Self, u8> {
-        if !Directory::is_length(directory.len()) || !Book::is_length(book.len()) {
-            return Err(SHAPE);
-        }
         Ok(Tables {
-            directory: Directory::from_numbers(directory),
-            book: Book::from_numbers(book),
+            directory: Directory::lent(directory)?,
+            book: Book::lent(book)?,
         })
     }
 
@@ -34,6 +33,35 @@ impl Tables {
             Ok(orders) => Applied::Done(message, orders),
             Err(number) => Applied::Refused(number),
         }
+    }
+
+    /// Order by reference.
+    pub fn order(&self, reference: u64) -> Result<Account, u8> {
+        self.book.order(reference)
+    }
+
+    /// Level by locate, side and price.
+    pub fn level(&self, locate: u16, side: u8, price: u32) -> Result<Level, u8> {
+        self.book.level(locate, side, price)
+    }
+
+    /// Best level of a stock's side.
+    pub fn best(&self, locate: u16, side: u8) -> Result<Option<Level>, u8> {
+        self.book.best(locate, side)
+    }
+
+    /// Next level worse than a price.
+    pub fn next(&self, locate: u16, side: u8, price: u32) -> Result<Option<Level>, u8> {
+        self.book.next(locate, side, price)
+    }
+
+    pub fn live_count(&self) -> u64 {
+        self.book.live_count()
+    }
+
+    /// The part of a message that is its symbol.
+    pub fn symbol(&self, bytes: &[u8]) -> Range<usize> {
+        self.directory.symbol(bytes)
     }
 
     pub fn directory(&self) -> &Directory {
