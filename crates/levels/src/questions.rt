@@ -1,5 +1,5 @@
-// What the desk may ask of a book: a level, the best level of a stock's side, and the next one worse than a price. Each is one
-// pass, and changes nothing.
+// What the desk may ask of a book: a level, the best level of a stock's side, and the next one worse than a price; and what going
+// through all levels asks, the first one from a step on. Each is one pass, and changes nothing.
 ghost use mathlib.Core.Path.{_≡_};
 ghost use Prim.Native.Nat.{_<_};
 ghost use lib.ListN.{length};
@@ -70,8 +70,8 @@ fn ask(book: &[u64], byte: u8, w: Wanted) -> Asked
     Asked::Answered(best)
 }
 
-// The best level not before the step `from`.
-fn first_from(book: &[u64], locate: Locate, byte: u8, from: u64) -> Quote
+// The best level of a stock's side not before the step `from`, counted from the best price possible.
+pub fn first_from(book: &[u64], locate: Locate, byte: u8, from: u64) -> Quote
     ensures { λ r. ⌜ r ≡ checked (now (book .entry)) byte (standing (now (book .entry)) (wordsOf (length (now (book .entry)))) (locate .0) (sideOf byte) from) ⌝ }
 {
     let side = side_of(byte);

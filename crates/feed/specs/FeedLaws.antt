@@ -1,0 +1,82 @@
+-- The cases of `ran`, one law a case, so that nobody else has to open it: as many blocks as there are is what any greater number comes
+-- to, since no whole block is shorter than 2 bytes. Assumes nothing.
+use Prim.Native.Nat.{ℕ, zero, suc, _+_, _-_, _≤_}
+use native.Mathlib.Omega.{arith}
+use mathlib.Core.Path.{_≡_, refl, sym, ap, _∙_}
+use mathlib.Core.Bool.{Bool, true, false, cond, _&&_}
+use mathlib.Core.Logic.{⊎-elim}
+use mathlib.Core.List.{List, []}
+use lib.Dec.{eqb, leb}
+use lib.ListN.{length}
+use Rattle.laws.specs.Bools.{cases, and-left}
+use Rattle.blocks.specs.Blocks.{whole, body, behind}
+use Rattle.blocks.specs.BlockLaws.{not-whole, length-behind}
+use Rattle.records.specs.Records.{refusalRecord, refusalSize}
+use Rattle.records.specs.RecordLaws.{length-refusalRecord}
+use Rattle.feed.specs.Feed.{Day, Ran, more, onward, numbered, recordOf, behindOf, ran, ranThrough}
+
+-- a block is taken where one is whole and there is room
+abbrev pub taken : ℕ → List ℕ → Bool
+taken room s = whole s && leb refusalSize room
+
+abbrev pub still : List ℕ → Day → Ran
+still s day = record { records = []; left = s; day = day }
+
+-- ---- at most n blocks
+
+pub ran-stops : (n room : ℕ) (s : List ℕ) (day : Day) → taken room s ≡ false → ran n room s day ≡ still s day
+unfolding ran
+ran-stops zero room s day e = refl
+ran-stops (suc n) room s day e = rw e
+
+pub ran-takes : (n room : ℕ) (s : List ℕ) (day : Day) → taken room s ≡ true
+    → ran (suc n) room s day ≡ behindOf (recordOf day (body s)) (ran n (room - length (recordOf day (body s))) (behind s) (onward day (body s)))
+unfolding ran
+ran-takes n room s day e = rw e
+
+none-taken : (room : ℕ) (s : List ℕ) → length s ≤ 0 → taken room s ≡ false
+none-taken room s l = rw (not-whole s (omega arith))
+
+shorter : (room : ℕ) (s : List ℕ) → taken room s ≡ true → length (behind s) + 2 ≤ length s
+shorter room s e = omega (arith, length-behind s (and-left (whole s) (leb refusalSize room) e))
+
+-- more than there are changes nothing
+pub ran-same : (n m room : ℕ) (s : List ℕ) (day : Day) → length s ≤ n → length s ≤ m → ran n room s day ≡ ran m room s day
+ran-same zero m room s day p q =
+    let e = none-taken room s p in
+    ran-stops zero room s day e ∙ sym (ran-stops m room s day e)
+ran-same (suc n) zero room s day p q =
+    let e = none-taken room s q in
+    ran-stops (suc n) room s day e ∙ sym (ran-stops zero room s day e)
+ran-same (suc n) (suc m) room s day p q =
+    ⊎-elim
+    (λ e.
+    let l = shorter room s e in
+    ran-takes n room s day e
+    ∙ ap (behindOf (recordOf day (body s))) (ran-same n m (room - length (recordOf day (body s))) (behind s) (onward day (body s)) (omega arith) (omega arith))
+    ∙ sym (ran-takes m room s day e))
+    (λ e. ran-stops (suc n) room s day e ∙ sym (ran-stops (suc m) room s day e))
+    (cases (taken room s))
+
+-- ---- as many blocks as there are
+
+pub through-stops : (room : ℕ) (s : List ℕ) (day : Day) → taken room s ≡ false → ranThrough room s day ≡ still s day
+through-stops room s day e = ran-stops (length s) room s day e
+
+pub through-takes : (room : ℕ) (s : List ℕ) (day : Day) → taken room s ≡ true
+    → ranThrough room s day ≡ behindOf (recordOf day (body s)) (ranThrough (room - length (recordOf day (body s))) (behind s) (onward day (body s)))
+through-takes room s day e =
+    let l = shorter room s e in
+    ran-same (length s) (suc (length s)) room s day (omega arith) (omega arith)
+    ∙ ran-takes (length s) room s day e
+    ∙ ap (behindOf (recordOf day (body s))) (ran-same (length s) (length (behind s)) (room - length (recordOf day (body s))) (behind s) (onward day (body s)) (omega arith) (omega arith))
+
+-- ---- a message's record
+
+pub record-fits : (day : Day) (s : List ℕ) → length (recordOf day s) ≤ refusalSize
+unfolding recordOf
+record-fits day s = go (eqb (numbered day s) 0)
+  where
+    go : (b : Bool) → length (cond b [] (refusalRecord (more (day .tally .messages)) (numbered day s))) ≤ refusalSize
+    go true = omega arith
+    go false = omega (arith, length-refusalRecord (more (day .tally .messages)) (numbered day s))

@@ -1,0 +1,22 @@
+-- One message as the code takes it: the day goes on, and its record is put behind those that stand in the buffer. Assumes nothing.
+use Prim.Native.Nat.{ℕ}
+use mathlib.Core.List.{List}
+use Rattle.records.specs.Append.{appended, reach}
+use Rattle.feed.specs.Feed.{Day, Leaves, onward, recordOf}
+
+-- where the day stands
+abbrev pub dayOf : Leaves → Day
+dayOf x = record { directory = x .directory; book = x .book; tally = x .fed .tally }
+
+-- the message s, which ends at a place of the input
+abbrev pub stepped : List ℕ → ℕ → Leaves → Leaves
+stepped s end x = record {
+  fed = record {
+    at = end;
+    written = reach (x .out) (x .fed .written) (recordOf (dayOf x) s);
+    tally = onward (dayOf x) s .tally;
+  };
+  directory = onward (dayOf x) s .directory;
+  book = onward (dayOf x) s .book;
+  out = appended (x .out) (x .fed .written) (recordOf (dayOf x) s);
+}

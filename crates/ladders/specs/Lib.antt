@@ -1,0 +1,4 @@
+pub mod Ladders
+pub mod Search
+pub mod PlaceLaws
+pub mod LadderLaws

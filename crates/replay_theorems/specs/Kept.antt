@@ -1,0 +1,89 @@
+-- Tables made fresh are healthy, and every message keeps them so (runs, Healthy): through any run over bytes, and so through any day.
+-- Of a healthy book every live slot is sound, so it can be read; and healthy tables give neither 13 nor 14. Assumes nothing.
+use mathlib.Core.Path.{_≡_}
+use mathlib.Core.Bool.{true}
+use mathlib.Core.List.{List, []}
+use Prim.Native.Nat.{ℕ}
+use native.Mathlib.Omega.{arith}
+use borrow.Author.Tests.{eq-eqb, ne-eqb}
+use lib.ListN.{length}
+use Rattle.levels.specs.Totals.{total}
+use Rattle.levels.specs.Levels.{unsoundness}
+use Rattle.apply_theorems.specs.Means.{shaped-words}
+use Rattle.moves.specs.Lawful.{Bytes}
+use Rattle.runs.specs.Runs.{Tables}
+use Rattle.runs.specs.Statements.{Start, Healthy}
+use Rattle.runs.specs.Healthy.{Fitting, healthy-start, fitting-start, healthy-shaped, healthy-onward, fitting-onward, healthy-few}
+use Rattle.runs.specs.LevelRuns.{healthy-sound}
+use Rattle.blocks.specs.Blocks.{body, behind}
+use Rattle.feed.specs.Feed.{Day, onward, ran}
+use Rattle.ladders.specs.Ladders.{readable}
+use Rattle.replay_theorems.specs.Replay.{locates, bookWords, freshDay}
+use Rattle.replay_theorems.specs.Statements.{Went, begins, reads, feeds, Readable, NoDamage}
+use Rattle.replay_theorems.specs.Heads.{bytes-none, bytes-both, bytes-first, bytes-last, bytes-body, bytes-behind}
+use Rattle.replay_theorems.specs.RanLaws.{by-block}
+
+abbrev tablesOf : Day → Tables
+tablesOf day = record { directory = day .directory; book = day .book }
+
+-- the bytes held are bytes, and the tables are healthy and fit 64 bits
+record Kept (n k : ℕ) (held : List ℕ) (day : Day) : Type 0 where
+  bytes : Bytes held
+  healthy : Healthy n k (tablesOf day)
+  fitting : Fitting (tablesOf day)
+
+module _ (n k : ℕ) (z : Start n k) where
+  -- ---- through a run
+
+  kept-onward : (s : List ℕ) (day : Day) → Kept n k s day → Kept n k (behind s) (onward day (body s))
+  unfolding onward
+  kept-onward s day h =
+      let b = bytes-body s (h .bytes) in
+      record {
+        bytes = bytes-behind s (h .bytes);
+        healthy = healthy-onward n k (tablesOf day) (body s) z (h .healthy) (h .fitting) b;
+        fitting = fitting-onward n k (tablesOf day) (body s) z (h .healthy) (h .fitting) b;
+      }
+
+  kept-ran : (fuel room : ℕ) (s : List ℕ) (day : Day) → Kept n k s day → Kept n k (ran fuel room s day .left) (ran fuel room s day .day)
+  kept-ran =
+      by-block (λ s day x. Kept n k s day → Kept n k (x .left) (x .day)) (λ s day h. h) (λ s day x w next h. next (kept-onward s day h))
+
+  -- ---- what it gives
+
+  healthy-readable : (day : Day) → Healthy n k (tablesOf day) → readable (day .book) ≡ true
+  unfolding readable
+  healthy-readable day h =
+      rw (shaped-words (healthy-shaped z h), ne-eqb k 0 (λ e. omega (arith, z .some)))
+      (eq-eqb (total unsoundness (day .book) k) 0 (healthy-sound n k (tablesOf day) h))
+
+-- ---- through a day
+
+start-good : Start locates bookWords
+start-good = record { least = omega arith; most = omega arith; some = omega arith; few = omega arith }
+
+fresh-kept : Kept locates bookWords [] freshDay
+unfolding freshDay
+fresh-kept =
+    record {
+      bytes = bytes-none;
+      healthy = healthy-start locates bookWords start-good;
+      fitting = fitting-start locates bookWords start-good;
+    }
+
+went-kept : {s held out : List ℕ} {day : Day} → Bytes s → Went s held day out → Kept locates bookWords held day
+went-kept y begins = fresh-kept
+went-kept y (reads s held out t day g) =
+    let h = went-kept (bytes-first s t y) g in
+    record { bytes = bytes-both held t (h .bytes) (bytes-last s t y); healthy = h .healthy; fitting = h .fitting }
+went-kept y (feeds s held out day room g) = kept-ran locates bookWords start-good (length held) room held day (went-kept y g)
+
+-- THEOREM: the book can always be read
+pub readable-always : Readable
+readable-always s held out day y g = healthy-readable locates bookWords start-good day (went-kept y g .healthy)
+
+-- THEOREM: no message is refused with 13 or 14
+pub no-damage : NoDamage
+no-damage s held out m day y g =
+    let few = healthy-few locates bookWords (tablesOf day) m start-good (went-kept y g .healthy) in
+    (λ e. omega (arith, few, e), λ e. omega (arith, few, e))

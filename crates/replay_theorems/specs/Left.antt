@@ -1,0 +1,59 @@
+-- What a run leaves is the rest of its input, behind the bytes that it used (`left-behind`); and where nothing is short, no whole
+-- block (`part-left`). Assumes nothing.
+use mathlib.Core.Path.{_≡_, refl, sym, ap, _∙_}
+use mathlib.Core.Logic.{⊎-elim}
+use mathlib.Core.Bool.{true, false}
+use mathlib.Core.List.{List}
+use Prim.Native.Nat.{ℕ, zero, suc, _+_, _-_, _≤_}
+use native.Mathlib.Omega.{arith}
+use lib.ListN.{length, drop, length-drop}
+use lib.Seq.{drop-drop}
+use Rattle.laws.specs.Bools.{cases}
+use Rattle.blocks.specs.Blocks.{promised, whole, body, behind}
+use Rattle.blocks.specs.BlockLaws.{not-whole, length-behind}
+use Rattle.feed.specs.Feed.{Day, onward, ran, ranThrough}
+use Rattle.replay_theorems.specs.Replay.{throughout}
+use Rattle.replay_theorems.specs.Statements.{LeftBehind, PartLeft}
+use Rattle.replay_theorems.specs.RanLaws.{by-block, throughout-stops, throughout-goes}
+
+-- ---- the rest of its input
+
+record Rest (s left : List ℕ) : Type 0 where
+  at : ℕ
+  inside : at ≤ length s
+  is : left ≡ drop at s
+
+rest-behind : (s left : List ℕ) → whole s ≡ true → Rest (behind s) left → Rest s left
+unfolding behind
+rest-behind s left w r =
+    let b = length-behind s w in
+    let i = r .inside in
+    record { at = 2 + promised s + r .at; inside = omega arith; is = r .is ∙ drop-drop (r .at) (2 + promised s) s }
+
+ran-rest : (n room : ℕ) (s : List ℕ) (day : Day) → Rest s (ran n room s day .left)
+ran-rest =
+    by-block (λ s day x. Rest s (x .left)) (λ s day. record { at = 0; inside = omega arith; is = refl })
+    (λ s day x. rest-behind s (x .left))
+
+rest-left : (s left : List ℕ) → Rest s left → drop (length s - length left) s ≡ left
+rest-left s left r =
+    let i = r .inside in
+    let e : length s - length left ≡ r .at = omega (arith, ap length (r .is), length-drop (r .at) s) in
+    rw e (sym (r .is))
+
+-- THEOREM: what is left stands behind the bytes that were used
+pub left-behind : LeftBehind
+left-behind room s day = rest-left s (ranThrough room s day .left) (ran-rest (length s) room s day)
+
+-- ---- no whole block
+
+ends : (n : ℕ) (s : List ℕ) (day : Day) → length s ≤ n → whole (throughout s day .left) ≡ false
+ends zero s day l = let e = not-whole s (omega arith) in rw (throughout-stops s day e) e
+ends (suc n) s day l =
+    ⊎-elim
+    (λ (w : whole s ≡ true). rw (throughout-goes s day w) (ends n (behind s) (onward day (body s)) (omega (arith, length-behind s w))))
+    (λ (w : whole s ≡ false). rw (throughout-stops s day w) w) (cases (whole s))
+
+-- THEOREM: what is left in the end is no whole block
+pub part-left : PartLeft
+part-left s day = ends (length s) s day (omega arith)

@@ -1,0 +1,9 @@
+pub mod Replay
+pub mod Statements
+pub mod Heads
+pub mod RanLaws
+pub mod Left
+pub mod Kept
+pub mod Listing
+pub mod Replays
+pub mod Unique
