@@ -1,19 +1,24 @@
--- What a run leaves is the rest of its input, behind the bytes that it used (`left-behind`); and where nothing is short, no whole
--- block (`part-left`). Assumes nothing.
+-- What a run leaves is the rest of its input, behind the bytes that it used (`left-behind`), and shorter where there was a whole block
+-- (`goes-on`); and where nothing is short, no whole block (`part-left`). Assumes nothing.
 use mathlib.Core.Path.{_≡_, refl, sym, ap, _∙_}
 use mathlib.Core.Logic.{⊎-elim}
-use mathlib.Core.Bool.{true, false}
+use mathlib.Core.Bool.{true, false, false≢true}
 use mathlib.Core.List.{List}
-use Prim.Native.Nat.{ℕ, zero, suc, _+_, _-_, _≤_}
+use Prim.Native.Nat.{ℕ, zero, suc, _+_, _-_, _≤_, _<_}
 use native.Mathlib.Omega.{arith}
 use lib.ListN.{length, drop, length-drop}
 use lib.Seq.{drop-drop}
+use borrow.Author.Tests.{le-leb}
 use Rattle.laws.specs.Bools.{cases}
+use Rattle.laws.specs.Least.{lt-or-le}
+use Rattle.laws.specs.FieldLaws.{field-lt}
 use Rattle.blocks.specs.Blocks.{promised, whole, body, behind}
-use Rattle.blocks.specs.BlockLaws.{not-whole, length-behind}
-use Rattle.feed.specs.Feed.{Day, onward, ran, ranThrough}
+use Rattle.blocks.specs.BlockLaws.{is-whole, not-whole, length-behind}
+use Rattle.records.specs.Records.{refusalSize}
+use Rattle.feed.specs.Feed.{Day, onward, recordOf, ran, ranThrough}
+use Rattle.feed.specs.FeedLaws.{through-takes}
 use Rattle.replay_theorems.specs.Replay.{throughout}
-use Rattle.replay_theorems.specs.Statements.{LeftBehind, PartLeft}
+use Rattle.replay_theorems.specs.Statements.{LeftBehind, PartLeft, GoesOn, longest, HasRoom}
 use Rattle.replay_theorems.specs.RanLaws.{by-block, throughout-stops, throughout-goes}
 
 -- ---- the rest of its input
@@ -44,6 +49,31 @@ rest-left s left r =
 -- THEOREM: what is left stands behind the bytes that were used
 pub left-behind : LeftBehind
 left-behind room s day = rest-left s (ranThrough room s day .left) (ran-rest (length s) room s day)
+
+-- ---- going on
+
+length-left : (n room : ℕ) (s : List ℕ) (day : Day) → length (ran n room s day .left) ≤ length s
+length-left n room s day =
+    let r = ran-rest n room s day in
+    let i = r .inside in
+    omega (arith, ap length (r .is), length-drop (r .at) s)
+
+-- THEOREM: a whole block is used where there is room for a record
+pub goes-on : GoesOn
+goes-on room s day w h =
+    let first = recordOf day (body s) in
+    let next = onward day (body s) in
+    let l = length-left (length (behind s)) (room - length first) (behind s) next in
+    let e = ap (λ x. length (x .left)) (through-takes room s day (rw (w, le-leb refusalSize room h))) in
+    omega (arith, e, l, length-behind s w)
+
+-- THEOREM: what makes no whole block is shorter than the longest one
+pub has-room : HasRoom
+has-room s b w =
+    ⊎-elim
+    (λ (h : length s < longest). h)
+    (λ (h : longest ≤ length s). absurd (false≢true (sym w ∙ is-whole s (omega (arith, field-lt s 0 2 b)))))
+    (lt-or-le (length s) longest)
 
 -- ---- no whole block
 

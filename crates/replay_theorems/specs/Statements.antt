@@ -1,6 +1,6 @@
 -- WHAT IS PROMISED of the replay program's calls, however its input arrives and however its buffers fill: what is written is what the
 -- whole input fixes. The other files prove it. Assumes nothing.
-use Prim.Native.Nat.{ℕ, _-_}
+use Prim.Native.Nat.{ℕ, _-_, _≤_, _<_}
 use mathlib.Core.Path.{_≡_}
 use mathlib.Core.Logic.{_≢_}
 use mathlib.Core.Bool.{true, false}
@@ -8,7 +8,7 @@ use mathlib.Core.List.{List, [], _++_}
 use lib.ListN.{length, drop}
 use Rattle.moves.specs.Lawful.{Bytes}
 use Rattle.blocks.specs.Blocks.{whole}
-use Rattle.records.specs.Records.{tallyRecord}
+use Rattle.records.specs.Records.{tallyRecord, refusalSize}
 use Rattle.feed.specs.Feed.{Day, numbered, ranThrough, closedTally, closedRecord}
 use Rattle.ladders.specs.Ladders.{firstOf, readable, shown}
 use Rattle.replay_theorems.specs.Replay.{locates, freshDay, throughout, replayed}
@@ -36,6 +36,17 @@ Replays = (s held out rows : List ℕ) (day : Day) → Bytes s → Went s held d
 abbrev pub LeftBehind : Type 0
 LeftBehind = (room : ℕ) (s : List ℕ) (day : Day)
     → drop (length s - length (ranThrough room s day .left)) s ≡ ranThrough room s day .left
+
+-- a call that is lent a whole block, and room for a refusal's record, uses it
+abbrev pub GoesOn : Type 0
+GoesOn = (room : ℕ) (held : List ℕ) (day : Day) → whole held ≡ true → refusalSize ≤ room → length (ranThrough room held day .left) < length held
+
+-- no block is longer than this: a buffer of more bytes has room to read where no whole block is held
+abbrev pub longest : ℕ
+longest = 65537
+
+abbrev pub HasRoom : Type 0
+HasRoom = (held : List ℕ) → Bytes held → whole held ≡ false → length held < longest
 
 -- what is left of any input in the end is no whole block, but a part of one or nothing
 abbrev pub PartLeft : Type 0
