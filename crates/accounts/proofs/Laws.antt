@@ -1,27 +1,19 @@
 -- The ways through the order question, over plain values. Assumes nothing.
-use Prim.Native.Nat.{ℕ, _+_, _≤_, _<_}
+use Prim.Native.Nat.{ℕ}
 use mathlib.Core.Path.{_≡_, sym, ap, _∙_}
 use mathlib.Core.List.{List}
-use native.Mathlib.Omega.{arith}
 use borrow.Author.Tests.{eq-eqb, ne-eqb}
 use lib.ListN.{length}
 use Rattle.kinds.specs.declared.Slot.{Slot}
 use Rattle.book.specs.declared.Found.the-variants.{At, Nothing}
 use Rattle.book.specs.Book.{find, wordsOf}
 use Rattle.orders.specs.declared.Order.{Order}
-use Rattle.orders.specs.declared.Held.{Held}
 use Rattle.orders.specs.declared.Held.the-variants.{Sound, Unsound}
-use Rattle.orders.specs.OrderLaws.{held-sound}
 use Rattle.decide.specs.Decide.{nothing, something}
 use Rattle.decide.specs.Stored.{heldAt, seenIn}
 use Rattle.accounts.specs.declared.Accounted.{Accounted}
 use Rattle.accounts.specs.declared.Accounted.the-variants.{Refused, Is}
 use Rattle.accounts.specs.Accounts.{accountOf, accounted, orderAsked}
-
--- no more is gone from an order that a slot holds than was added
-pub gone-fits : (b : List ℕ) (k s : ℕ) (o : Order) → heldAt b k s ≡ Sound o → o .executed + o .cancelled + o .closed ≤ o .added
-unfolding heldAt
-gone-fits b k s o h = let p = held-sound _ _ _ _ o h in omega arith
 
 module _ (b : List ℕ) (r k : ℕ) (a : Accounted) where
   pub shapeless : k ≡ wordsOf (length b) → k ≡ 0 → a ≡ Refused (record { number = 14 }) → a ≡ orderAsked b r

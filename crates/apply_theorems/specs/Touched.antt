@@ -21,14 +21,14 @@ use Rattle.book.specs.Finds.{free-slot}
 use Rattle.book.specs.Slots.{Changed, put-changed, clear-changed}
 use Rattle.directory.specs.declared.Entry.{Entry}
 use Rattle.directory.specs.declared.Entry.the-variants.{Outside, Symbol}
-use Rattle.directory.specs.Directory.{registered, entryAt}
+use Rattle.directory.specs.Directory.{registered, entryAt, isSymbol}
 use Rattle.orders.specs.declared.Order.{Order}
 use Rattle.orders.specs.declared.Held.the-variants.{Sound, Unsound}
 use Rattle.orders.specs.Order.{remaining, second, third, fourth}
 use Rattle.fresh.specs.Fresh.{goodShapes}
 use Rattle.reader.specs.Read.{answer}
 use Rattle.decide.specs.Decide.{Verdict, refuse, enter, alter, leave, renew, enroll, pass, gate, stepOf}
-use Rattle.decide.specs.Decide.{Seen, nothing as unseen, something, isRegistered, isSymbol, registering, taking, closing, replacing, renewed}
+use Rattle.decide.specs.Decide.{Seen, nothing as unseen, something, isRegistered, registering, taking, closing, replacing, renewed}
 use Rattle.decide.specs.Stored.{isAt, slotOf, putOrder, entered, placed, kept, stored, enrolled}
 use Rattle.take.specs.Taken.{takenBy}
 use Rattle.steps.specs.Asked.{Asked, register, start, take, close, replace, nothing, asked}

@@ -1,7 +1,7 @@
 -- What a search that goes up has shown is what `find` and `lowestFree` answer, and what their answers say of the slot.
 -- Assumes nothing.
-use mathlib.Core.Path.{_≡_, refl, sym, subst}
-use mathlib.Core.Bool.{Bool, true, false, _&&_}
+use mathlib.Core.Path.{_≡_, sym, subst}
+use mathlib.Core.Bool.{Bool, true, false}
 use mathlib.Core.List.{List}
 use mathlib.Core.Logic.{⊎-elim}
 use Prim.Native.Nat.{ℕ, _+_, _*_, _≤_, _<_}
@@ -10,15 +10,11 @@ use native.Mathlib.Omega.{arith}
 use borrow.Author.Tests.{lt-ltb, le-ltb, eq-eqb, ne-eqb, eqb-true}
 use lib.Dec.{eqb}
 use lib.ListN.{getD}
-use Rattle.laws.specs.Bools.{and-left, and-right}
+use Rattle.laws.specs.Bools.{and-left, and-right, and-false}
 use Rattle.laws.specs.Least.{least, least-is, least-none, least-at, lt-or-le}
 use Rattle.kinds.specs.declared.Slot.{Slot}
 use Rattle.book.specs.declared.Found.the-variants.{At, Nothing}
 use Rattle.book.specs.Book.{live, numberAt, holds, isFree, foundBelow, find, lowestFree}
-
-and-false : (a : Bool) → (a && false) ≡ false
-and-false true = refl
-and-false false = refl
 
 -- ---- whether a slot holds a reference
 

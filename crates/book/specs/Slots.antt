@@ -1,6 +1,6 @@
 -- What every change of one slot does: one record, `Changed`, which a slot put and a slot cleared both meet. The laws above
 -- the book go by this record alone. Assumes nothing.
-use mathlib.Core.Path.{_≡_, sym, ap, _∙_}
+use mathlib.Core.Path.{_≡_, refl, sym, ap, _∙_}
 use mathlib.Core.List.{List}
 use mathlib.Core.Logic.{⊎-elim, _≢_, _⊎_, inl, inr}
 use Prim.Native.Nat.{ℕ, _+_, _*_, _/_, _%_, _≤_, _<_}
@@ -9,10 +9,13 @@ use native.Mathlib.Omega.{arith}
 use lib.ListN.{length, getD, set, length-set}
 use lib.Seq.{getD-set-same, getD-set-other}
 use Rattle.laws.specs.Bit.{bit, setBit, clearBit, setBit-same, setBit-other, clearBit-same, clearBit-other}
+use Rattle.laws.specs.Bools.{true-not-false}
 use Rattle.laws.specs.Least.{least-ext, same-or, lt-or-le}
+use Rattle.kinds.specs.declared.Slot.{Slot}
+use Rattle.book.specs.declared.Found.{Found}
 use Rattle.book.specs.declared.Found.the-variants.{At, Nothing}
-use Rattle.book.specs.Book.{live, numberAt, holds, foundBelow, find, four, putSlot, clearSlot}
-use Rattle.book.specs.Finds.{holds-yes, find-at, nowhere}
+use Rattle.book.specs.Book.{live, numberAt, holds, isFree, foundBelow, find, lowestFree, four, putSlot, clearSlot}
+use Rattle.book.specs.Finds.{holds-yes, find-at, nowhere, free-yes, full}
 use Rattle.book.specs.Shape.{Sized}
 
 -- ---- four numbers stored from place a on
@@ -153,3 +156,13 @@ module _ {k s v n0 n1 n2 n3 : ℕ} {b c : List ℕ} (g : Changed k s v n0 n1 n2 
       ap (foundBelow (64 * k))
       (least-ext (holds c k r) (holds b k r) (64 * k)
       (λ t l. ⊎-elim (λ q. rw q (sym same)) (λ q. holds-off r t l q) (same-or t s)))
+
+-- a slot that is cleared is free, so one is found
+pub cleared-room : (b : List ℕ) (k s : ℕ) → Sized b k → s < 64 * k → (t : Slot) × (lowestFree (clearSlot b k s) k ≡ At t)
+cleared-room b k s z l = go (lowestFree (clearSlot b k s) k) refl
+  where
+    go : (f : Found) → lowestFree (clearSlot b k s) k ≡ f → (t : Slot) × (f ≡ At t)
+    go (At t) e = (t, refl)
+    go Nothing e =
+        let c = clearSlot b k s in
+        absurd (true-not-false (isFree c s) (free-yes c s (clear-changed b k s (z .size) l .bit-at)) (full c k e s l))

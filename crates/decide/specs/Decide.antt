@@ -4,13 +4,13 @@
 use Prim.Native.Nat.{ℕ}
 use mathlib.Core.Bool.{Bool, true, false, not, cond}
 use lib.Dec.{eqb, leb}
-use Rattle.messages.specs.declared.Refusal.{Refusal}
 use Rattle.directory.specs.declared.Entry.{Entry}
 use Rattle.directory.specs.declared.Entry.the-variants.{Outside, Symbol}
+use Rattle.directory.specs.Directory.{isSymbol}
 use Rattle.orders.specs.declared.Order.{Order}
 use Rattle.orders.specs.declared.Held.{Held}
 use Rattle.orders.specs.declared.Held.the-variants.{Sound, Unsound}
-use Rattle.orders.specs.Order.{remaining, executedBy, cancelledBy}
+use Rattle.orders.specs.Order.{remaining}
 use Rattle.decide.specs.declared.Step.{Step}
 use Rattle.decide.specs.declared.Step.the-variants.{Refused, Plain, One, Two}
 use Rattle.decide.specs.Figured.{figuresOf}
@@ -44,10 +44,6 @@ pub data Seen : Type 0 where
 abbrev pub isRegistered : Entry → Bool
 isRegistered Outside = false
 isRegistered (Symbol n) = not (eqb n 0)
-
-abbrev pub isSymbol : ℕ → Entry → Bool
-isSymbol symbol Outside = false
-isSymbol symbol (Symbol n) = eqb n symbol
 
 -- R: 7, 8; the same symbol again is accepted and changes nothing
 abbrev pub registering : Entry → ℕ → ℕ → Verdict

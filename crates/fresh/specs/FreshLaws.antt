@@ -1,20 +1,16 @@
 -- What the tests of both shapes say of making tables fresh. Assumes nothing.
-use mathlib.Core.Path.{_≡_, refl}
-use mathlib.Core.Bool.{Bool, true, false, _&&_}
+use mathlib.Core.Path.{_≡_}
+use mathlib.Core.Bool.{true, false}
 use mathlib.Core.List.{List}
 use Prim.Native.Nat.{ℕ, _<_}
 use borrow.Author.Tests.{lt-ltb}
-use lib.Dec.{ltb}
 use lib.ListN.{length, replicate}
+use Rattle.laws.specs.Bools.{and-false}
 use Rattle.book.specs.Book.{wordsOf}
 use Rattle.directory.specs.Directory.{goodLength}
 use Rattle.fresh.specs.declared.Made.{Made}
 use Rattle.fresh.specs.declared.Made.the-variants.{Fresh, Refused}
 use Rattle.fresh.specs.Fresh.{goodShapes, madeOf, freshOf, Comes}
-
-and-false : (a : Bool) → a && false ≡ false
-and-false true = refl
-and-false false = refl
 
 pub bad-directory : (d b : List ℕ) → goodLength (length d) ≡ false → goodShapes d b ≡ false
 unfolding goodShapes

@@ -8,6 +8,7 @@ use Prim.Native.Nat.{ℕ, _+_, _*_, _≤_, _<_}
 use native.Mathlib.Omega.{arith}
 use lib.Dec.{eqb, ltb}
 use borrow.Author.Tests.{eq-eqb, ne-eqb, eqb-true, le-leb, lt-ltb, ltb-true, ltb-false}
+use Rattle.laws.specs.Bools.{and-false}
 use Rattle.laws.specs.Least.{same-or}
 use Rattle.kinds.specs.declared.Side.{Side}
 use Rattle.orders.specs.declared.Order.{Order}
@@ -52,10 +53,6 @@ bestIn w b k = record {
 and-true : (a : Bool) → (a && true) ≡ a
 and-true true = refl
 and-true false = refl
-
-and-false : (a : Bool) → (a && false) ≡ false
-and-false true = refl
-and-false false = refl
 
 -- a price is i steps away where it is the price at i
 same-price : (side : Side) (p i : ℕ) → p < allPrices → i < allPrices → eqb (stepsTo side p) i ≡ eqb p (priceAt side i)

@@ -3,7 +3,6 @@
 ghost use mathlib.Core.Path.{_≡_};
 ghost use Prim.Native.Nat.{ℕ, _+_, _*_, _≤_, _<_, min};
 ghost use Rattle.book.specs.Shape.{Sized};
-ghost use Rattle.messages.specs.Numbers.{sideByte};
 ghost use Rattle.orders.specs.Order.{held};
 ghost use Rattle.decide.specs.Stored.{heldAt};
 ghost use Rattle.levels.specs.Levels.{stepsTo};
@@ -76,15 +75,6 @@ fn steps_to(side: Side, price: u32) -> u64
     }
 }
 
-fn letter_of(side: Side) -> u64
-    ensures { λ r. ⌜ (r ≡ sideByte side) × (r < 256) ⌝ }
-{
-    match side {
-        Side::Buy => 66,
-        Side::Sell => 83,
-    }
-}
-
 // Where the steps of what is wanted begin, in one number with the locate and the side as a slot has them; any number where they
 // begin past all prices.
 fn base_of(w: Wanted) -> u64
@@ -95,7 +85,7 @@ fn base_of(w: Wanted) -> u64
     if 4294967296 <= w.from {
         return 0;
     }
-    ((locate.0 as u64) * 256 + letter_of(side)) * 1099511627776 + w.from
+    ((locate.0 as u64) * 256 + orders::side_byte(side)) * 1099511627776 + w.from
 }
 
 fn lesser(a: u64, b: u64) -> u64

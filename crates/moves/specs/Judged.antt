@@ -8,19 +8,18 @@ use Prim.Native.Nat.{ℕ, _+_, _*_, _≤_, _<_}
 use native.Mathlib.Omega.{arith}
 use borrow.Author.Tests.{eqb-true, eqb-false, leb-true, not-true}
 use lib.Dec.{eqb, leb}
-use Rattle.laws.specs.Bools.{true-not-false}
 use Rattle.text.specs.Text.{text, letters, letter}
 use Rattle.kinds.specs.declared.Slot.{Slot}
 use Rattle.kinds.specs.Admission.{maximum}
 use Rattle.book.specs.declared.Found.{Found}
 use Rattle.book.specs.declared.Found.the-variants.{At, Nothing}
-use Rattle.book.specs.Book.{numberAt, isFree, find, lowestFree, clearSlot}
-use Rattle.book.specs.Finds.{found-slot, free-yes, full}
+use Rattle.book.specs.Book.{numberAt, find, lowestFree}
+use Rattle.book.specs.Finds.{found-slot}
 use Rattle.book.specs.Shape.{Sized}
-use Rattle.book.specs.Slots.{clear-changed}
+use Rattle.book.specs.Slots.{cleared-room}
 use Rattle.directory.specs.declared.Entry.{Entry}
 use Rattle.directory.specs.declared.Entry.the-variants.{Outside, Symbol}
-use Rattle.directory.specs.Directory.{entryAt}
+use Rattle.directory.specs.Directory.{entryAt, isSymbol}
 use Rattle.directory.specs.DirectoryLaws.{inside}
 use Rattle.orders.specs.declared.Order.{Order}
 use Rattle.orders.specs.declared.Held.{Held}
@@ -28,7 +27,7 @@ use Rattle.orders.specs.declared.Held.the-variants.{Sound, Unsound}
 use Rattle.orders.specs.Order.{remaining}
 use Rattle.orders.specs.OrderLaws.{Fit, held-fit, held-numbers, fresh-fit}
 use Rattle.decide.specs.Decide.{Verdict, refuse, enroll, pass, gate, unattributed, renewed}
-use Rattle.decide.specs.Decide.{Seen, nothing as unseen, something, isRegistered, isSymbol, registering, taking, closing, replacing}
+use Rattle.decide.specs.Decide.{Seen, nothing as unseen, something, isRegistered, registering, taking, closing, replacing}
 use Rattle.decide.specs.Stored.{heldAt, seenIn, isAt}
 use Rattle.take.specs.Taken.{takenBy}
 use Rattle.steps.specs.Asked.{Asked, register, start, take, close, replace, nothing}
@@ -50,16 +49,6 @@ present Nothing e = absurd (false≢true e)
 symbol-is : (symbol : ℕ) (e : Entry) → isSymbol symbol e ≡ true → e ≡ Symbol symbol
 symbol-is symbol Outside e = absurd (false≢true e)
 symbol-is symbol (Symbol n) e = ap Symbol (eqb-true n symbol e)
-
--- a slot that is cleared is free, so one is found
-roomy : (b : List ℕ) (k s : ℕ) → Sized b k → s < 64 * k → (t : Slot) × (lowestFree (clearSlot b k s) k ≡ At t)
-roomy b k s z l = go (lowestFree (clearSlot b k s) k) refl
-  where
-    go : (f : Found) → lowestFree (clearSlot b k s) k ≡ f → (t : Slot) × (f ≡ At t)
-    go (At t) e = (t, refl)
-    go Nothing e =
-        let c = clearSlot b k s in
-        absurd (true-not-false (isFree c s) (free-yes c s (clear-changed b k s (z .size) l .bit-at)) (full c k e s l))
 
 -- ---- the orders
 
@@ -190,7 +179,7 @@ tells d b k (replace original new l c price) z n y =
     through (eqb (o .locate .0) l) 8 λ p.
     through (not (eqb new original)) 9 λ q.
     through (not (isAt (find b k new))) 9 λ r.
-    let room = roomy b k (w .slot .0) z (w .inside) in
+    let room = cleared-room b k (w .slot .0) z (w .inside) in
     record {
       told = record {
         original = original;

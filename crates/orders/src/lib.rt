@@ -92,7 +92,8 @@ impl Order {
     }
 }
 
-fn side_byte(s: Side) -> u64
+// The byte of a side, B or S.
+pub fn side_byte(s: Side) -> u64
     ensures { λ r. ⌜ (r ≡ sideByte s) × (r ≤ 83) ⌝ }
 {
     match s {

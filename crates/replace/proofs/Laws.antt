@@ -1,28 +1,26 @@
 -- Each way through a replacement is its verdict, over plain values: what the searches found, what the slot holds, and what the
 -- steps made of it. Assumes nothing.
 use Prim.Native.Nat.{ℕ, _+_, _*_, _≤_, _<_}
-use mathlib.Core.Path.{_≡_, refl, sym, ap, _∙_}
-use mathlib.Core.Bool.{true, false}
+use mathlib.Core.Path.{_≡_, sym, ap, _∙_}
 use mathlib.Core.List.{List}
 use native.Mathlib.Omega.{arith}
 use Rattle.kinds.specs.declared.Slot.{Slot}
 use Rattle.book.specs.declared.Found.{Found}
 use Rattle.book.specs.declared.Found.the-variants.{At, Nothing}
-use Rattle.book.specs.Book.{find, lowestFree, clearSlot, isFree}
-use Rattle.book.specs.Finds.{found-slot, free-yes, full}
+use Rattle.book.specs.Book.{find, lowestFree, clearSlot}
 use Rattle.book.specs.Shape.{Sized}
-use Rattle.book.specs.Slots.{clear-changed, clear-sized}
+use Rattle.book.specs.Slots.{clear-sized, cleared-room}
 use Rattle.orders.specs.declared.Order.{Order}
 use Rattle.orders.specs.declared.Held.{Held}
 use Rattle.orders.specs.declared.Held.the-variants.{Sound, Unsound}
 use Rattle.orders.specs.Order.{remaining, closedOf}
-use Rattle.orders.specs.OrderLaws.{held-sound, closed-remaining}
+use Rattle.orders.specs.OrderLaws.{closed-remaining}
 use Rattle.decide.specs.declared.Figures.{Figures}
 use Rattle.decide.specs.declared.Step.{Step}
 use Rattle.decide.specs.declared.Step.the-variants.{Refused, Two}
-use Rattle.decide.specs.Decide.{something, replacing, renewed, renew}
+use Rattle.decide.specs.Decide.{something, replacing, renewed}
 use Rattle.decide.specs.Figured.{figuresOf}
-use Rattle.decide.specs.Stored.{heldAt, seenIn, isAt, slotOf, putOrder, entered, placed, stored}
+use Rattle.decide.specs.Stored.{heldAt, seenIn, isAt, slotOf, putOrder, entered, placed}
 use Rattle.decide.specs.Stepped.{Stepped, refused, done}
 use Rattle.decide.specs.Verdicts.{replace-none, replace-unsound, replace-elsewhere, replace-itself, replace-duplicate, replaces}
 
@@ -45,14 +43,6 @@ holding b k s g y e f = sym e ∙ f
 abbrev pub Left : Order → Type 0
 Left o = o .executed + o .cancelled + o .closed ≤ o .added
 
-pub held-left : (b : List ℕ) (k s : ℕ) (o : Order) → heldAt b k s ≡ Sound o → Left o
-unfolding heldAt
-held-left b k s o e = let h = held-sound _ _ _ _ o e in omega (arith, h .left, h .closed)
-
-pub closed-left : (o q : Order) → q ≡ closedOf o → Left o → Left q
-unfolding closedOf remaining
-closed-left o q e l = rw e (omega arith)
-
 pub renewed-left : (o q : Order) (new shares price : ℕ) → q ≡ renewed o new shares price → Left q
 renewed-left o q new shares price e = rw e (omega arith)
 
@@ -62,11 +52,10 @@ renewed-left o q new shares price e = rw e (omega arith)
 pub cleared-sized : (b d : List ℕ) (k s : ℕ) → Sized b k → d ≡ clearSlot b k s → Sized d k
 cleared-sized b d k s z e = rw e (clear-sized b k s z)
 
--- the slot that was cleared is free
-pub roomy : (b d : List ℕ) (k s : ℕ) → Sized b k → s < 64 * k → d ≡ clearSlot b k s → lowestFree d k ≡ Nothing → ⊥
-roomy b d k s z l e none =
-    let taken = full d k none s l in
-    let free = free-yes d s (rw e (clear-changed b k s (z .size) l .bit-at)) in
+-- it is never full
+pub cleared-full : (b d : List ℕ) (k s : ℕ) → Sized b k → s < 64 * k → d ≡ clearSlot b k s → lowestFree d k ≡ Nothing → ⊥
+cleared-full b d k s z l e none =
+    let room = cleared-room b k s z l .1 in
     let n : _≡_ {A = ℕ} 0 1 = cc in
     omega arith
 

@@ -3,16 +3,11 @@
 use mathlib.Core.Path.{_≡_, refl, sym, ap, _∙_}
 use mathlib.Core.Bool.{true, cond, _&&_}
 use mathlib.Core.List.{List, [], _∷_, List·Memᴰ·head as here, List·Memᴰ·tail as there}
-use Prim.Native.Nat.{ℕ, _*_, _/_, _%_, _<_}
-use native.Mathlib.Omega.{arith}
+use Prim.Native.Nat.{ℕ}
 use lib.Dec.{ltb}
-use lib.ListN.{length, replicate, getD-replicate}
-use Rattle.laws.specs.Bit.{bit, bit-of-zero}
-use Rattle.book.specs.Book.{live, wordsOf}
+use lib.ListN.{length, replicate}
+use Rattle.book.specs.Book.{wordsOf}
 use Rattle.directory.specs.Directory.{goodLength}
-use Rattle.orders.specs.declared.Held.{Held}
-use Rattle.levels.specs.Totals.{total}
-use Rattle.levels.specs.TotalLaws.{none-total}
 use Rattle.fresh.specs.Fresh.{goodShapes, freshOf}
 use Rattle.runs.specs.Runs.{Tables, onward, answered, reached, said}
 use Rattle.runs.specs.Statements.{Run, Start, start, Alike, BothRoom, NeverFull, Agree}

@@ -11,9 +11,9 @@ use Rattle.messages.specs.declared.Message.{Message}
 use Rattle.messages.specs.declared.Answer.{Answer}
 use Rattle.messages.specs.declared.Answer.the-variants as read
 use Rattle.book.specs.Book.{find, lowestFree}
-use Rattle.directory.specs.Directory.{entryAt}
+use Rattle.directory.specs.Directory.{entryAt, isSymbol}
 use Rattle.orders.specs.declared.Order.{Order}
-use Rattle.decide.specs.Decide.{Verdict, enter, gate, stepOf, isRegistered, isSymbol, placing, taking, closing, replacing}
+use Rattle.decide.specs.Decide.{Verdict, enter, gate, stepOf, isRegistered, placing, taking, closing, replacing}
 use Rattle.decide.specs.Stored.{seenIn, isAt, enrolled}
 use Rattle.take.specs.Taken.{takenBy}
 use Rattle.reader.specs.Read.{answer}

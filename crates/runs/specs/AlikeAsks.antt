@@ -23,9 +23,9 @@ use Rattle.levels.specs.declared.Quote.the-variants.{Nothing, Stands}
 use Rattle.levels.specs.Levels.{sharesAt, ordersAt, unsoundness, levelAt, allPrices, priceAt, stepsTo, someAt, firstStep, standing}
 use Rattle.levels.specs.Levels.{refused, checked, levelOf, bestOf, nextOf}
 use Rattle.levels.specs.Totals.{weighed, total}
-use Rattle.levels.specs.TotalLaws.{none-total}
 use Rattle.runs.specs.Runs.{Tables}
 use Rattle.runs.specs.Statements.{Start, Healthy, SameOrders, Alike, AskedAlike}
+use Rattle.runs.specs.Healthy.{healthy-sound}
 use Rattle.runs.specs.Onward.{words}
 use Rattle.runs.specs.SameSeen.{seen-same}
 
@@ -35,13 +35,10 @@ module _ {n k : ℕ} {t : Tables} (z : Start n k) (h : Healthy n k t) where
   some-words : eqb k 0 ≡ false
   some-words = ne-eqb k 0 (λ e. omega (arith, z .some))
 
-  all-sound : total unsoundness (t .book) k ≡ 0
-  all-sound = none-total unsoundness (t .book) k λ s l e. ap unsoundness (h .sound s l e .1)
-
-  -- so a question about levels is refused only for its side
+  -- a question about levels is refused only for its side
   checked-side : (byte : ℕ) (q : ℕ → Quote)
       → checked (t .book) byte (q (wordsOf (length (t .book)))) ≡ cond (goodSide byte) (q k) (refused 4)
-  checked-side byte q = rw (words z h, some-words, eq-eqb (total unsoundness (t .book) k) 0 all-sound)
+  checked-side byte q = rw (words z h, some-words, eq-eqb (total unsoundness (t .book) k) 0 (healthy-sound h))
 
   pub order-seen : (r : ℕ) → orderAsked (t .book) r ≡ accounted (seenIn (t .book) k (find (t .book) k r))
   unfolding orderAsked

@@ -24,6 +24,9 @@ use Rattle.steps.specs.Asked.{Asked, register, start as begin, take, close, rep
 use Rattle.steps.specs.Steps.{judged, slotNamed}
 use Rattle.apply.specs.Apply.{After, applied}
 use Rattle.apply.specs.ApplyLaws.{unread, judgement}
+use Rattle.levels.specs.Totals.{total}
+use Rattle.levels.specs.TotalLaws.{none-total}
+use Rattle.levels.specs.Levels.{unsoundness}
 use Rattle.apply_theorems.specs.Statements.{Shaped, Broken, Earned, Judged, Given}
 use Rattle.apply_theorems.specs.Means.{shaped-good, shaped-words, shaped-unique}
 use Rattle.apply_theorems.specs.Exactly.{exactly}
@@ -50,7 +53,7 @@ all-zero zero i = refl
 all-zero (suc n) zero = refl
 all-zero (suc n) (suc i) = all-zero n i
 
-none-live : (m s : ℕ) → live (replicate m 0) s ≡ 0
+pub none-live : (m s : ℕ) → live (replicate m 0) s ≡ 0
 unfolding live bit
 none-live m s = rw (all-zero m (s / 64), zero-div (2 ^ (s % 64)))
 
@@ -92,6 +95,10 @@ module _ {n k : ℕ} {t : Tables} where
 
   pub healthy-orderly : Healthy n k t → Orderly (t .directory) (t .book) k
   healthy-orderly h = record { sound = h .sound; apart = h .apart; free = h .free }
+
+  -- no live slot is unsound
+  pub healthy-sound : Healthy n k t → total unsoundness (t .book) k ≡ 0
+  healthy-sound h = none-total unsoundness (t .book) k λ s l e. ap unsoundness (h .sound s l e .1)
 
 -- ---- one message
 

@@ -23,8 +23,7 @@ use Rattle.take.specs.Taken.{takenBy}
 use Rattle.steps.specs.Asked.{asked}
 use Rattle.apply.specs.Apply.{concluded}
 use Rattle.levels.specs.Totals.{total}
-use Rattle.levels.specs.TotalLaws.{none-total}
-use Rattle.levels.specs.Levels.{standsAt, sharesAt, unsoundness, levelAt, levelOf}
+use Rattle.levels.specs.Levels.{standsAt, sharesAt, levelAt, levelOf}
 use Rattle.apply_theorems.specs.Means.{shaped-words}
 use Rattle.moves.specs.Moves.{Moved}
 use Rattle.moves.specs.Facts.{Facts}
@@ -33,7 +32,7 @@ use Rattle.runs.specs.Runs.{Tables, reached, said}
 use Rattle.runs.specs.Ledger.{Event, added, executed, cancelled, closed, Line, linesOf, ledger, broughtBy, put, taken}
 use Rattle.runs.specs.Ledger.{takenBy as awayBy}
 use Rattle.runs.specs.Statements.{Run, Start, start, Healthy, standing, ByLevel}
-use Rattle.runs.specs.Healthy.{healthy-start, fitting-start, healthy-shaped, healthy-reached}
+use Rattle.runs.specs.Healthy.{healthy-start, fitting-start, healthy-shaped, healthy-sound, healthy-reached}
 use Rattle.runs.specs.RunLaws.{by-verdict, over-run, fresh-total}
 use Rattle.runs.specs.RunLaws.{Takes, take-line, taken-weight, starts-remaining, renewed-remaining}
 
@@ -126,16 +125,12 @@ unfolding goodSide
 side-read Buy = (refl, refl)
 side-read Sell = (refl, refl)
 
--- no live slot of a healthy book is unsound
-pub healthy-sound : (n k : ℕ) (t : Tables) → Healthy n k t → total unsoundness (t .book) k ≡ 0
-healthy-sound n k t h = none-total unsoundness (t .book) k λ s l a. ap unsoundness (h .sound s l a .1)
-
 -- the level question shows the shares that stand there
 pub level-shown : (n k : ℕ) (t : Tables) → Start n k → Healthy n k t → (l : ℕ) (side : Side) (p : ℕ)
     → standing (levelOf (t .book) l (sideByte side) p) ≡ total (sharesAt l side p) (t .book) k
 unfolding levelOf levelAt
 level-shown n k t i h l side p =
-    rw (shaped-words (healthy-shaped i h), side-read side .0, side-read side .1, healthy-sound n k t h)
+    rw (shaped-words (healthy-shaped i h), side-read side .0, side-read side .1, healthy-sound h)
     (rw (ne-eqb k 0 (λ e. omega (arith, i .some))))
 
 -- THEOREM: what was put at a level is what was taken away there and what it shows

@@ -2,13 +2,11 @@
 use mathlib.Core.Path.{_≡_, sym, ap, subst, _∙_}
 use mathlib.Core.List.{List}
 use Prim.Native.Nat.{ℕ}
-use native.Mathlib.Omega.{arith}
 use lib.ListN.{length}
 use Rattle.messages.specs.declared.Message.{Message}
 use Rattle.messages.specs.declared.Refusal.{Refusal}
 use Rattle.messages.specs.declared.Answer.the-variants as read
 use Rattle.book.specs.Book.{wordsOf}
-use Rattle.book.specs.Shape.{Sized}
 use Rattle.reader.specs.Read.{answer}
 use Rattle.steps.specs.Asked.{asked}
 use Rattle.steps.specs.Steps.{judged, slotNamed}

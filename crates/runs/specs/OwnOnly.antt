@@ -40,8 +40,8 @@ use Rattle.moves.specs.Moves.{takenOut, putIn}
 use Rattle.moves.specs.Facts.{Facts}
 use Rattle.moves.specs.Altered.{altered-reference}
 use Rattle.runs.specs.Runs.{Tables, onward, answered}
-use Rattle.runs.specs.Ledger.{line, takenAs, Event, Line, linesOf, ofLevel}
-use Rattle.runs.specs.Ledger.Event.{added, executed, cancelled, closed}
+use Rattle.runs.specs.Ledger.{line, takenAs, Line, linesOf, ofLevel}
+use Rattle.runs.specs.Ledger.Event.{added, closed}
 use Rattle.runs.specs.Statements.{Start, Healthy, Touches, Concerns, OnlyItsOwn}
 use Rattle.runs.specs.Healthy.{Fitting, healthy-onward}
 use Rattle.runs.specs.Onward.{step-unread, step-read, step-facts, step-moved}

@@ -1,21 +1,18 @@
 -- What is shown of each verdict with its facts holds of each message (`by-verdict`), and what links the book before a message to the
 -- book after it, and chains, links both ends of a run (`over-run`). The lines of the ledger are read off what was asked, and shares
 -- taken of an order are what its weight falls by. Assumes nothing.
-use mathlib.Core.Path.{_≡_, refl, sym, ap, subst}
+use mathlib.Core.Path.{_≡_, refl, sym, subst}
 use mathlib.Core.Bool.{Bool, true, false, cond}
 use mathlib.Core.List.{List, [], _∷_, _++_, List·Memᴰ·head as here, List·Memᴰ·tail as there}
-use Prim.Native.Nat.{ℕ, _+_, _-_, _*_, _/_, _%_, _≤_, _<_}
+use Prim.Native.Nat.{ℕ, _+_, _-_, _*_, _≤_}
 use native.Mathlib.Omega.{arith}
 use borrow.Author.Tests.{eqb-true}
 use lib.Dec.{eqb}
-use lib.ListN.{replicate, getD-replicate}
-use Rattle.laws.specs.Bit.{bit, bit-of-zero}
+use lib.ListN.{replicate}
 use Rattle.messages.specs.declared.Message.{Message}
 use Rattle.messages.specs.declared.Refusal.{Refusal}
 use Rattle.messages.specs.declared.Answer.{Answer}
 use Rattle.messages.specs.declared.Answer.the-variants as read
-use Rattle.book.specs.Book.{live}
-use Rattle.book.specs.Shape.{Sized}
 use Rattle.reader.specs.Read.{answer}
 use Rattle.orders.specs.declared.Order.{Order}
 use Rattle.orders.specs.declared.Held.{Held}
@@ -43,7 +40,7 @@ use Rattle.moves.specs.Reads.{lawful}
 use Rattle.runs.specs.Runs.{Tables, onward, answered, reached, said}
 use Rattle.runs.specs.Ledger.{Event, added, executed, cancelled, closed, Line, line, linesOf, ledger}
 use Rattle.runs.specs.Statements.{Run, Start, start, Healthy}
-use Rattle.runs.specs.Healthy.{Fitting, healthy-onward, fitting-onward, healthy-shaped, healthy-sized}
+use Rattle.runs.specs.Healthy.{Fitting, none-live, healthy-onward, fitting-onward, healthy-shaped, healthy-sized}
 
 -- ---- one message
 
@@ -95,13 +92,7 @@ over-run n k i R none one both (s ∷ ss) y t h g =
 
 -- nothing has weight in a book made fresh
 pub fresh-total : (w : Held → ℕ) (n k : ℕ) → total w (start n k .book) k ≡ 0
-unfolding live
-fresh-total w n k = none-total w (replicate (257 * k) 0) k λ s l e. absurd (never s l e)
-  where
-    never : (s : ℕ) → s < 64 * k → live (replicate (257 * k) 0) s ≡ 1 → ⊥
-    never s l e =
-        let z = getD-replicate {A = ℕ} (257 * k) (s / 64) 0 0 (omega arith) in
-        omega (arith, e, ap (λ (x : ℕ). bit x (s % 64)) z, bit-of-zero (s % 64))
+fresh-total w n k = none-total w (replicate (257 * k) 0) k λ s l e. absurd (omega (arith, none-live (257 * k) s, e))
 
 -- ---- the lines of the ledger
 

@@ -1,7 +1,7 @@
 -- A run: byte strings applied in turn to the same two tables, from tables made fresh. Assumes nothing.
 use Prim.Native.Nat.{ℕ}
 use mathlib.Core.List.{List, [], _∷_}
-use lib.ListN.{length, replicate}
+use lib.ListN.{replicate}
 use Rattle.apply.specs.declared.Outcome.{Outcome}
 use Rattle.apply.specs.Apply.{applied}
 

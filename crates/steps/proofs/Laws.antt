@@ -1,6 +1,6 @@
 -- Verdicts about orders leave the directory, the verdict about a symbol leaves the book; a message of a kind that the code does not
 -- name asks for nothing. Assumes nothing.
-use mathlib.Core.Path.{_≡_, refl, sym, ap, _∙_, subst}
+use mathlib.Core.Path.{_≡_, refl, sym, subst}
 use mathlib.Core.Bool.{Bool, true, false, not, cond, false≢true}
 use mathlib.Core.List.{List, [], _∷_}
 use Prim.Native.Nat.{ℕ}
@@ -12,15 +12,15 @@ use Rattle.messages.specs.declared.Message.{Message}
 use Rattle.messages.specs.declared.Message.the-variants as m
 use Rattle.directory.specs.declared.Entry.{Entry}
 use Rattle.directory.specs.declared.Entry.the-variants.{Outside, Symbol}
-use Rattle.directory.specs.Directory.{entryAt}
+use Rattle.directory.specs.Directory.{entryAt, isSymbol}
 use Rattle.book.specs.Book.{find, lowestFree}
 use Rattle.orders.specs.declared.Order.{Order}
 use Rattle.orders.specs.Order.{remaining}
 use Rattle.orders.specs.declared.Held.the-variants.{Sound, Unsound}
 use Rattle.decide.specs.declared.Step.{Step}
 use Rattle.decide.specs.declared.Step.the-variants.{Plain}
-use Rattle.decide.specs.Decide.{Verdict, gate, enter, alter, leave, renew, renewed, enroll, pass, isRegistered, isSymbol, Seen, nothing as unseen, something, registering, placing, taking, closing, replacing}
-use Rattle.decide.specs.Stepped.{Stepped, Enrolled, Whole}
+use Rattle.decide.specs.Decide.{Verdict, gate, enter, alter, leave, renew, renewed, enroll, pass, isRegistered, Seen, nothing as unseen, something, registering, placing, taking, closing, replacing}
+use Rattle.decide.specs.Stepped.{Whole}
 use Rattle.decide.specs.Stored.{stored, enrolled, isAt, seenIn}
 use Rattle.steps.specs.Asked.{Asked, register, start, take, close, replace, nothing, asked}
 use Rattle.steps.specs.Steps.{judged, Places, Lists, Does}

@@ -10,9 +10,9 @@ use denote.Ref.{RefT, ptr, now}
 use lib.ListN.{length, take, drop}
 use Rattle.laws.specs.Field.{field}
 use Rattle.reader.specs.Read.{typeOf, answer}
-use Rattle.directory.specs.Directory.{goodLength, entryAt}
+use Rattle.directory.specs.Directory.{goodLength, entryAt, isSymbol}
 use Rattle.symbol.specs.declared.Part.{Part}
-use Rattle.symbol.specs.Symbol.{stockAt, locateOf, stockOf, isGood, isSymbol, isNamed, unpadded, emptyPart, symbolPart, IsPart}
+use Rattle.symbol.specs.Symbol.{stockAt, locateOf, stockOf, isGood, isNamed, unpadded, emptyPart, symbolPart, IsPart}
 use Rattle.symbol.specs.Stocks.{Stock, stockFor, stocks, stocks-printed, stock-fits}
 use Rattle.symbol.specs.Unpadded.{after-space, no-space}
 use Rattle.symbol.specs.Formed.{formed}

@@ -15,9 +15,9 @@ use Rattle.messages.specs.declared.Answer.the-variants.{Good, Refused}
 use Rattle.messages.specs.declared.Message.{Message}
 use Rattle.reader.specs.Read.{typeOf, answer}
 use Rattle.directory.specs.declared.Entry.the-variants.{Outside, Symbol}
-use Rattle.directory.specs.Directory.{goodLength, mostNumbers, entryAt}
+use Rattle.directory.specs.Directory.{goodLength, mostNumbers, entryAt, isSymbol}
 use Rattle.symbol.specs.declared.Part.{Part}
-use Rattle.symbol.specs.Symbol.{stockAt, locateOf, stockOf, isGood, isSymbol, isNamed, unpadded, emptyPart, symbolPart}
+use Rattle.symbol.specs.Symbol.{stockAt, locateOf, stockOf, isGood, isNamed, unpadded, emptyPart, symbolPart}
 use Rattle.symbol.specs.Stocks.{stock-fits}
 use Rattle.symbol.specs.Unpadded.{Unpadded, unpadded-le, unpadded-means}
 use Rattle.symbol.specs.Formed.{formed, stock-text}

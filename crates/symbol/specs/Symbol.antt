@@ -15,9 +15,7 @@ use Rattle.layout.specs.Layout.{cellsOf}
 use Rattle.messages.specs.declared.Answer.{Answer}
 use Rattle.messages.specs.declared.Answer.the-variants.{Good, Refused}
 use Rattle.reader.specs.Read.{typeOf, answer}
-use Rattle.directory.specs.declared.Entry.{Entry}
-use Rattle.directory.specs.declared.Entry.the-variants.{Outside, Symbol}
-use Rattle.directory.specs.Directory.{goodLength, entryAt}
+use Rattle.directory.specs.Directory.{goodLength, entryAt, isSymbol}
 use Rattle.symbol.specs.declared.Part.{Part}
 
 abbrev pub isText : Kind → Bool
@@ -56,11 +54,6 @@ stockOf s = field s (stockAt (typeOf s)) 8
 abbrev pub isGood : Answer → Bool
 isGood (Good m) = true
 isGood (Refused r) = false
-
--- what stands at a locate is this symbol
-abbrev pub isSymbol : ℕ → Entry → Bool
-isSymbol symbol Outside = false
-isSymbol symbol (Symbol n) = eqb n symbol
 
 -- the directory's length is right and the message is well formed, has a Stock field, and its locate is registered with that symbol
 unfoldable pub isNamed : List ℕ → List ℕ → Bool

@@ -1,8 +1,8 @@
 // The symbol question: a message's unpadded symbol as a part of the message, after comparison with the directory.
 ghost use mathlib.Core.Path.{_≡_};
 ghost use Rattle.reader.specs.Read.{answer};
-ghost use Rattle.directory.specs.Directory.{entryAt};
-ghost use Rattle.symbol.specs.Symbol.{IsPart, isGood, isSymbol, stockAt, symbolPart, unpadded};
+ghost use Rattle.directory.specs.Directory.{entryAt, isSymbol};
+ghost use Rattle.symbol.specs.Symbol.{IsPart, isGood, stockAt, symbolPart, unpadded};
 use directory::Entry;
 use kinds::Locate;
 use messages::Answer;

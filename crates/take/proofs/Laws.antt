@@ -34,12 +34,7 @@ use Rattle.take.specs.Taken.{takenBy}
 pub in-book : (b : List ℕ) (k r : ℕ) (s : Slot) → Sized b k → find b k r ≡ At s → Sized b k × (s .0 < 64 * k)
 in-book b k r s z e = (z, found-slot b k r s e .0)
 
--- no more is gone from an order that a slot holds than was added
-pub gone-fits : (b : List ℕ) (k s : ℕ) (o : Order) → heldAt b k s ≡ Sound o → o .executed + o .cancelled + o .closed ≤ o .added
-unfolding heldAt
-gone-fits b k s o h = let p = held-sound _ _ _ _ o h in omega arith
-
--- nor after n of what remains is taken
+-- no more is gone than was added after n of what remains is taken
 pub more-fits : (b : List ℕ) (k s n : ℕ) (o : Order) → heldAt b k s ≡ Sound o → n ≤ remaining o
     → o .executed + o .cancelled + o .closed + n ≤ o .added
 unfolding heldAt remaining
@@ -65,15 +60,6 @@ taken-within Cancelled o n l = omega arith
 pub taken-fits : (how : Taking) (o x : Order) (n : ℕ) → o .executed + o .cancelled + o .closed + n ≤ o .added → x ≡ takenBy how o n
     → x .executed + x .cancelled + x .closed ≤ x .added
 taken-fits how o x n l e = rw e (taken-within how o n l)
-
-closed-within : (o : Order) → o .executed + o .cancelled + o .closed ≤ o .added
-    → closedOf o .executed + closedOf o .cancelled + closedOf o .closed ≤ closedOf o .added
-unfolding closedOf remaining
-closed-within o l = omega arith
-
-pub closed-fits : (o x : Order) → o .executed + o .cancelled + o .closed ≤ o .added → x ≡ closedOf o
-    → x .executed + x .cancelled + x .closed ≤ x .added
-closed-fits o x l e = rw e (closed-within o l)
 
 kept-cleared : (b : List ℕ) (k s : ℕ) (o : Order) → remaining o ≡ 0 → kept b k s o ≡ clearSlot b k s
 unfolding kept

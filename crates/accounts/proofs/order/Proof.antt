@@ -1,11 +1,12 @@
 -- What the search and the slot answered fixes what is seen, and each way through is its answer. Assumes nothing.
 use borrow.Author.Needs.{needs}
-use mathlib.Core.Path.{_≡_, sym, ap, _∙_}
+use mathlib.Core.Path.{sym, ap, _∙_}
 use native.Mathlib.Omega.{arith}
 use Rattle.book.specs.Finds.{found-slot}
 use Rattle.book.specs.Shape.{words-sized}
+use Rattle.decide.specs.HeldLaws.{gone-fits}
 use Rattle.accounts.specs.declared.Accounted.the-variants.{Is}
-use Rattle.accounts.proofs.Laws.{gone-fits, shapeless, missing, unsound, known}
+use Rattle.accounts.proofs.Laws.{shapeless, missing, unsound, known}
 use Rattle.accounts.proofs.order.Statement.{statement}
 use Rattle.accounts.proofs.order.Tie as tie
 

@@ -11,7 +11,7 @@ returns c = λ l. absurd (omega (arith, c .if1 .taken))
 
 returns-2 : tie.Need-returns-2
 unfolding Based
-returns-2 c = λ l. omega (arith, c .before .letter-of .ensures .0)
+returns-2 c = λ l. omega (arith, c .before .side-byte .ensures .0)
 
 pub base-of-spec : {M : Type 1} → statement M
 base-of-spec =

@@ -10,7 +10,8 @@ use Rattle.orders.specs.declared.Held.the-variants.{Sound, Unsound}
 use Rattle.decide.specs.declared.Step.the-variants.{Two}
 use Rattle.decide.specs.Decide.{renewed}
 use Rattle.decide.specs.Stored.{heldAt}
-use Rattle.replace.proofs.Laws.{searched, lowest, holding, held-left, closed-left, renewed-left, cleared-sized, roomy, none, unsound, elsewhere, itself, duplicate, replaced, answers, enters}
+use Rattle.decide.specs.HeldLaws.{gone-fits, closed-fits}
+use Rattle.replace.proofs.Laws.{searched, lowest, holding, renewed-left, cleared-sized, cleared-full, none, unsound, elsewhere, itself, duplicate, replaced, answers, enters}
 use Rattle.replace.proofs.replace.Statement.{statement}
 use Rattle.replace.proofs.replace.Tie as tie
 
@@ -90,7 +91,7 @@ closed-requires c κs =
     let h = c .before .before .before .before .before .before .before .before .before .before .before .before .held .given in
     let o = h .0 .0 in
     let sound : heldAt b (a .k) (s .0) ≡ Sound o = holding b (a .k) (s .0) (c .before .before .before .before .before .before .before .before .before .before .before .before .before .before .held-at .result) (Sound o) (c .before .before .before .before .before .before .before .before .before .before .before .before .before .before .held-at .ensures) (h .1) in
-    held-left b (a .k) (s .0) o sound
+    gone-fits b (a .k) (s .0) o sound
 
 clear-slot-requires : tie.Need-clear-slot-requires
 clear-slot-requires c κs =
@@ -128,7 +129,7 @@ returns-6 c =
     let d = c .before .before .before .before .before .before .before .clear-slot .last .0 in
     let cleared : d ≡ clearSlot b (a .k) (s .0) = c .before .before .before .before .before .before .before .clear-slot .ensures in
     let told : lowestFree d (a .k) ≡ Nothing = lowest d (a .k) (c .before .before .before .lowest-free .result) Nothing (c .before .before .before .lowest-free .ensures) (c .before .enum-told5 .given .1) in
-    absurd (roomy b d (a .k) (s .0) z l cleared told)
+    absurd (cleared-full b d (a .k) (s .0) z l cleared told)
 
 put-order-requires : tie.Need-put-order-requires
 put-order-requires c κs =
@@ -155,7 +156,7 @@ remaining-requires c κs =
     let h = c .before .before .before .before .before .before .before .before .before .before .before .before .before .before .before .before .before .before .before .before .before .before .before .before .before .before .before .held .given in
     let o = h .0 .0 in
     let sound : heldAt b (a .k) (s .0) ≡ Sound o = holding b (a .k) (s .0) (c .before .before .before .before .before .before .before .before .before .before .before .before .before .before .before .before .before .before .before .before .before .before .before .before .before .before .before .before .before .held-at .result) (Sound o) (c .before .before .before .before .before .before .before .before .before .before .before .before .before .before .before .before .before .before .before .before .before .before .before .before .before .before .before .before .before .held-at .ensures) (h .1) in
-    held-left b (a .k) (s .0) o sound
+    gone-fits b (a .k) (s .0) o sound
 
 remaining-requires-2 : tie.Need-remaining-requires-2
 remaining-requires-2 c κs =
@@ -167,7 +168,7 @@ remaining-requires-2 c κs =
     let h = c .before .before .before .before .before .before .before .before .before .before .before .before .before .before .before .before .before .before .before .before .before .before .before .before .before .before .before .before .held .given in
     let o = h .0 .0 in
     let sound : heldAt b (a .k) (s .0) ≡ Sound o = holding b (a .k) (s .0) (c .before .before .before .before .before .before .before .before .before .before .before .before .before .before .before .before .before .before .before .before .before .before .before .before .before .before .before .before .before .before .held-at .result) (Sound o) (c .before .before .before .before .before .before .before .before .before .before .before .before .before .before .before .before .before .before .before .before .before .before .before .before .before .before .before .before .before .before .held-at .ensures) (h .1) in
-    closed-left o (c .before .before .before .before .before .before .before .before .before .before .before .before .before .before .before .closed .result) (c .before .before .before .before .before .before .before .before .before .before .before .before .before .before .before .closed .ensures) (held-left b (a .k) (s .0) o sound)
+    closed-fits o (c .before .before .before .before .before .before .before .before .before .before .before .before .before .before .before .closed .result) (gone-fits b (a .k) (s .0) o sound) (c .before .before .before .before .before .before .before .before .before .before .before .before .before .before .before .closed .ensures)
 
 remaining-requires-3 : tie.Need-remaining-requires-3
 remaining-requires-3 c κs =

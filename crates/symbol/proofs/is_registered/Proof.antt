@@ -1,7 +1,7 @@
 -- What stands at the locate is nothing, or a symbol that is compared. Assumes nothing.
 use borrow.Author.Needs.{needs}
 use mathlib.Core.Path.{sym, ap, _∙_}
-use Rattle.symbol.specs.Symbol.{isSymbol}
+use Rattle.directory.specs.Directory.{isSymbol}
 use Rattle.symbol.proofs.is_registered.Statement.{statement}
 use Rattle.symbol.proofs.is_registered.Tie as tie
 

@@ -4,7 +4,8 @@ use Rattle.book.specs.declared.Found.the-variants.{At, Nothing}
 use Rattle.book.specs.Book.{find}
 use Rattle.orders.specs.declared.Held.the-variants.{Sound, Unsound}
 use Rattle.decide.specs.Stored.{heldAt}
-use Rattle.take.proofs.Laws.{in-book, gone-fits, closed-fits, delete-none, delete-unsound, delete-elsewhere, delete-done}
+use Rattle.decide.specs.HeldLaws.{gone-fits, closed-fits}
+use Rattle.take.proofs.Laws.{in-book, delete-none, delete-unsound, delete-elsewhere, delete-done}
 use borrow.Author.Needs.{needs}
 use native.Mathlib.Omega.{arith}
 use Rattle.take.proofs.delete.Statement.{statement}

@@ -6,8 +6,9 @@ use Rattle.book.specs.declared.Found.the-variants.{At, Nothing}
 use Rattle.book.specs.Book.{find}
 use Rattle.orders.specs.declared.Held.the-variants.{Sound, Unsound}
 use Rattle.decide.specs.Stored.{heldAt}
+use Rattle.decide.specs.HeldLaws.{gone-fits}
 use Rattle.orders.specs.Order.{remaining}
-use Rattle.take.proofs.Laws.{in-book, gone-fits, more-fits, taken-fits, none-taken, unsound-taken, elsewhere-taken, over-taken, took-all, took-some}
+use Rattle.take.proofs.Laws.{in-book, more-fits, taken-fits, none-taken, unsound-taken, elsewhere-taken, over-taken, took-all, took-some}
 use borrow.Author.Needs.{needs}
 use Rattle.take.proofs.take.Statement.{statement}
 use Rattle.take.proofs.take.Tie as tie
