@@ -13,8 +13,7 @@ use Rattle.apply_theorems.specs.Means.{shaped-words}
 use Rattle.moves.specs.Lawful.{Bytes}
 use Rattle.runs.specs.Runs.{Tables}
 use Rattle.runs.specs.Statements.{Start, Healthy}
-use Rattle.runs.specs.Healthy.{Fitting, healthy-start, fitting-start, healthy-shaped, healthy-onward, fitting-onward, healthy-few}
-use Rattle.runs.specs.LevelRuns.{healthy-sound}
+use Rattle.runs.specs.Healthy.{Fitting, healthy-start, fitting-start, healthy-shaped, healthy-sound, healthy-onward, fitting-onward, healthy-few}
 use Rattle.blocks.specs.Blocks.{body, behind}
 use Rattle.feed.specs.Feed.{Day, onward, ran}
 use Rattle.ladders.specs.Ladders.{readable}
@@ -55,7 +54,7 @@ module _ (n k : ℕ) (z : Start n k) where
   unfolding readable
   healthy-readable day h =
       rw (shaped-words (healthy-shaped z h), ne-eqb k 0 (λ e. omega (arith, z .some)))
-      (eq-eqb (total unsoundness (day .book) k) 0 (healthy-sound n k (tablesOf day) h))
+      (eq-eqb (total unsoundness (day .book) k) 0 (healthy-sound h))
 
 -- ---- through a day
 
