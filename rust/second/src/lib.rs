@@ -1,5 +1,5 @@
 //! The independent second program: one TotalView-ITCH 5.0 message read, and applied to the tables;
-//! and the desk's questions about them.
+//! the desk's questions about them; and the replay of a stream.
 //!
 //! Written from the papers alone, to be held against the product: plain and slow, one field after
 //! the other and one slot after the other. It knows nothing of packets, and nothing of the product.
@@ -13,6 +13,7 @@ mod message;
 mod order;
 mod orders;
 pub mod questions;
+pub mod replay;
 mod steps;
 mod stock;
 mod symbol;

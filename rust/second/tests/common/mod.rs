@@ -1,6 +1,8 @@
 //! Tables and messages for the tests: one stock, ZVZZT at locate 1, and samples with some fields set.
 #![allow(dead_code, reason = "each test file uses a part")]
 
+pub mod replayed;
+
 use samples::{sample_with, FlatBook, SlotNumbers};
 use second::Tables;
 
