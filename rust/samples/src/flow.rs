@@ -1,5 +1,6 @@
 //! Flows of messages that fit together, each made with a view of the stocks and the live orders.
 
+use crate::make::with;
 use crate::{random_message, Layout, Random, LAYOUTS, MAXIMUM_PRICE};
 
 /// An order to aim at.
@@ -227,12 +228,7 @@ impl Flow {
 /// A random message of the type with some fields set by their names.
 fn made(message_type: u8, sets: &[(&str, u64)], random: &mut Random) -> Vec<u8> {
     let layout = Layout::of(message_type).expect("one of the 23");
-    let mut message = random_message(layout, random);
-    for (name, number) in sets {
-        let field = layout.field(name).expect("a field of the type");
-        field.set(&mut message, *number);
-    }
-    message
+    with(layout, random_message(layout, random), sets)
 }
 
 pub(crate) fn symbol(random: &mut Random) -> u64 {

@@ -1,10 +1,12 @@
 //! Messages to try the readers with: well-formed ones, ones spoiled in a known way, and flows of
-//! them that fit together; and tables to apply them to, sound and damaged ones.
+//! them that fit together; tables to apply them to, sound and damaged ones; and a day to replay.
 //!
 //! Its table of layouts takes the offsets as document 000 prints them, while the second program's
 //! reader takes one field after the other, so that each is a check of the other. It reads nothing.
 
+mod blocks;
 mod damage;
+mod day;
 mod faults;
 mod flow;
 mod layouts;
@@ -13,11 +15,13 @@ mod random;
 mod slots;
 mod twist;
 
+pub use blocks::{put_block, stream_of};
 pub use damage::{damaged_book, damaged_directory, harm};
+pub use day::day;
 pub use faults::{faults_of, spoil, Fault};
 pub use flow::{Flow, Target};
 pub use layouts::LAYOUTS;
-pub use make::{random_message, random_text, sample, sample_with};
+pub use make::{bare_with, random_message, random_text, sample, sample_with};
 pub use random::Random;
 pub use slots::{broken_slots, sound_book, targets, FlatBook, SlotNumbers};
 pub use twist::{random_bytes, twist};

@@ -27,7 +27,18 @@ pub fn sample(layout: &Layout) -> Vec<u8> {
 /// The sample of a type with some fields set by their names.
 pub fn sample_with(message_type: u8, sets: &[(&str, u64)]) -> Vec<u8> {
     let layout = Layout::of(message_type).expect("one of the 23");
-    let mut message = sample(layout);
+    with(layout, sample(layout), sets)
+}
+
+/// A message of a type that is zero but for the fields set by their names.
+pub fn bare_with(message_type: u8, sets: &[(&str, u64)]) -> Vec<u8> {
+    let layout = Layout::of(message_type).expect("one of the 23");
+    let mut message = vec![0; layout.length];
+    message[0] = message_type;
+    with(layout, message, sets)
+}
+
+pub(crate) fn with(layout: &Layout, mut message: Vec<u8>, sets: &[(&str, u64)]) -> Vec<u8> {
     for (name, number) in sets {
         let field = layout.field(name).expect("a field of the type");
         field.set(&mut message, *number);

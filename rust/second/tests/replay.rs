@@ -4,7 +4,7 @@ mod common;
 
 use common::replayed::*;
 use common::*;
-use samples::sample_with;
+use samples::{sample_with, stream_of};
 use second::replay::replay;
 use second::{CONFLICT, FULL, LENGTH, STOCK, TYPE};
 use std::cell::RefCell;
@@ -34,7 +34,7 @@ fn the_whole_case() {
         \x62\0\x01\0\x01\x86\xA0\0\0\0\0\0\0\0\xC8\0\0\0\x01\
         \x7A\0\0\0\0\0\0\0\x04\0\0\0\0\0\0\0\x01";
     assert_eq!(expected.len(), 46);
-    assert_eq!(records(&stream(&messages)), expected);
+    assert_eq!(records(&stream_of(&messages)), expected);
 }
 
 #[test]
@@ -52,12 +52,12 @@ fn a_block_of_no_bytes_is_refused_and_reading_goes_on() {
         level(b'b', 1, 100_000, 300, 1),
         counts(5, 3),
     ];
-    assert_eq!(records(&stream(&messages)), expected.concat());
+    assert_eq!(records(&stream_of(&messages)), expected.concat());
 }
 
 /// The whole stream and then what is cut: one message more, refused with 1.
 fn cut(last: &[u8]) {
-    let begun = stream(&[register(1, ZVZZT), add(5)]);
+    let begun = stream_of(&[register(1, ZVZZT), add(5)]);
     let expected = [
         refusal(3, LENGTH),
         level(b'b', 1, 100_000, 300, 1),
@@ -71,7 +71,7 @@ fn cut(last: &[u8]) {
 
 #[test]
 fn a_cut_block_is_one_message_refused_with_1() {
-    let whole = stream(&[add(6)]);
+    let whole = stream_of(&[add(6)]);
     for length in 1..whole.len() {
         cut(&whole[..length]);
     }
@@ -127,7 +127,7 @@ fn the_longest_blocks() {
         level(b'b', 1, 100_000, 300, 1),
         counts(6, 4),
     ];
-    let stream = stream(&messages);
+    let stream = stream_of(&messages);
     assert_eq!(records(&stream), expected.concat());
     let short = stream.len() - 1;
     let mut expected = expected;
@@ -157,7 +157,7 @@ fn a_full_book() {
         level(b'b', 1, 99_900, 70, 1),
         counts(1_032, 4),
     ];
-    assert_eq!(records(&stream(&messages)), expected.concat());
+    assert_eq!(records(&stream_of(&messages)), expected.concat());
 }
 
 #[test]
@@ -185,7 +185,7 @@ fn locates_from_1_to_2_047() {
         level(b's', 2_047, 0, 7, 1),
         counts(10, 7),
     ];
-    assert_eq!(records(&stream(&messages)), expected.concat());
+    assert_eq!(records(&stream_of(&messages)), expected.concat());
 }
 
 #[test]
@@ -213,7 +213,7 @@ fn by_rising_locate_buys_then_sells_best_first() {
         rising.iter().for_each(|price| side(b's', *price));
     }
     expected.extend(counts(39, 0));
-    assert_eq!(records(&stream(&messages)), expected);
+    assert_eq!(records(&stream_of(&messages)), expected);
 }
 
 /// What was written, for others to look at.

@@ -2,8 +2,8 @@
 
 mod common;
 
-use common::replayed::{self, counts, records, refusal, stream};
-use samples::{random_bytes, twist, Flow, Random};
+use common::replayed::{self, counts, records, refusal};
+use samples::{random_bytes, stream_of, twist, Flow, Random};
 use second::{Tables, FULL};
 
 const DIRECTORY: usize = 2_048;
@@ -80,7 +80,7 @@ fn agree(seed: u64, wanted: usize, count: usize) -> u64 {
     let end = counts(expected.messages, expected.refused);
     expected.records.extend(end);
     assert!(
-        records(&stream(&messages)) == expected.records,
+        records(&stream_of(&messages)) == expected.records,
         "seed {seed}"
     );
     expected.full

@@ -1,21 +1,26 @@
-//! Shows what the product reads in a file of messages, a line each.
+//! Shows the records of a replay to a person: the ladders, the refusals, and the counts.
 //!
-//! `show FILE` prints; `show --make FILE` writes the sample that ships with the project. A file is
-//! blocks of a 2-byte big-endian length and that many bytes.
+//! `show RECORDS STREAM` prints; `show --make FILE` writes the day that ships with the project. The
+//! symbols and the types of refused messages are looked up in the stream that was replayed.
 
-mod morning;
+mod records;
+mod stream;
+mod text;
 
-use samples::{Field, Layout, Rule};
+use records::Records;
+use std::fs;
+use std::io::{self, Write};
 use std::process::ExitCode;
+use stream::Stream;
 
 fn main() -> ExitCode {
     let words: Vec<String> = std::env::args().skip(1).collect();
     let words: Vec<&str> = words.iter().map(String::as_str).collect();
     let done = match words[..] {
-        ["--make", file] => std::fs::write(file, morning::blocks()),
-        [file] => std::fs::read(file).map(|blocks| show(&blocks)),
+        ["--make", file] => fs::write(file, samples::day()).map_err(|error| told(file, &error)),
+        [records, stream] => show(records, stream),
         _ => {
-            eprintln!("usage: show FILE | show --make FILE");
+            eprintln!("usage: show RECORDS STREAM | show --make FILE");
             return ExitCode::from(2);
         }
     };
@@ -28,72 +33,17 @@ fn main() -> ExitCode {
     }
 }
 
-fn show(mut blocks: &[u8]) {
-    let mut read = 0;
-    let mut refused = 0;
-    while let Some((length, rest)) = blocks.split_first_chunk::<2>() {
-        let length = usize::from(u16::from_be_bytes(*length)).min(rest.len());
-        let (message, rest) = rest.split_at(length);
-        read += 1;
-        refused += usize::from(!line(read, message));
-        blocks = rest;
-    }
-    println!("{read} messages, {refused} refused");
+fn show(records: &str, stream: &str) -> Result<(), String> {
+    let read = |file| fs::read(file).map_err(|error| told(file, &error));
+    let bytes = read(stream)?;
+    let stream = Stream::of(&bytes);
+    let found = Records::read(&read(records)?).map_err(|error| format!("{records}: {error}"))?;
+    let text = text::text(&found, &stream)?;
+    io::stdout()
+        .write_all(text.as_bytes())
+        .map_err(|error| told("standard output", &error))
 }
 
-/// Prints one message; whether it was accepted.
-fn line(place: usize, message: &[u8]) -> bool {
-    let mut out = [0; 18];
-    let number = face::read(message, &mut out);
-    if number != 0 {
-        let first = message
-            .first()
-            .map_or("nothing".into(), |byte| letter(*byte));
-        println!("{place:>3}  refused {number} {:<6}  {first}", name(number));
-        return false;
-    }
-    let layout = Layout::of(out[0] as u8).expect("an accepted message has a type");
-    let fields: Vec<String> = layout
-        .fields()
-        .zip(&out[1..])
-        .map(|(field, number)| format!("{} {}", field.name, value(field, *number)))
-        .collect();
-    println!(
-        "{place:>3}  {}  {}",
-        letter(out[0] as u8),
-        fields.join(", ")
-    );
-    true
-}
-
-fn name(number: u8) -> &'static str {
-    ["done", "LENGTH", "TYPE", "TIME", "FIELD", "PRICE", "SHARES"][usize::from(number)]
-}
-
-fn letter(byte: u8) -> String {
-    match byte {
-        b'!'..=b'~' => char::from(byte).to_string(),
-        _ => format!("hex {byte:02X}"),
-    }
-}
-
-/// A field's number as a person writes it.
-fn value(field: &Field, number: u64) -> String {
-    let second = number / 1_000_000_000;
-    match field.rule {
-        Rule::Time => format!(
-            "{:02}:{:02}:{:02}.{:09}",
-            second / 3600,
-            second / 60 % 60,
-            second % 60,
-            number % 1_000_000_000
-        ),
-        Rule::Price => format!("{}.{:04}", number / 10_000, number % 10_000),
-        Rule::Text => String::from_utf8_lossy(&number.to_be_bytes())
-            .trim_matches(|sign| sign == ' ' || sign == '\0')
-            .into(),
-        Rule::Side | Rule::Printable => letter(number as u8),
-        Rule::Free if field.width == 1 => letter(number as u8),
-        _ => number.to_string(),
-    }
+fn told(what: &str, error: &io::Error) -> String {
+    format!("{what}: {error}")
 }

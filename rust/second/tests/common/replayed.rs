@@ -1,17 +1,7 @@
-//! Streams of blocks, and the records that a replay of them gives.
+//! The records that a replay gives.
 
 use second::replay::replay;
 use std::io::{self, Read};
-
-/// Messages as blocks.
-pub fn stream(messages: &[Vec<u8>]) -> Vec<u8> {
-    let mut stream = vec![];
-    for message in messages {
-        stream.extend(u16::try_from(message.len()).unwrap().to_be_bytes());
-        stream.extend(message);
-    }
-    stream
-}
 
 /// Hands out a few bytes at a time, with interruptions between.
 struct Drops<'a> {
