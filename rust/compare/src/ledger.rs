@@ -89,16 +89,11 @@ impl Ledger {
 
     /// Prints the summary; true if all was met and nothing differed.
     pub fn finish(&self) -> bool {
-        let total: u64 = self.sources.iter().map(|(_, count)| count).sum();
         println!("messages applied by source (both whole tables compared after each):");
         for (name, count) in &self.sources {
             println!("  {count:>9}  {name}");
         }
-        println!("  {total:>9}  in all");
-        println!("number met by apply: how often");
-        for (number, count) in self.met.iter().enumerate() {
-            println!("  {number:>2}: {count:>9}");
-        }
+        println!("  {:>9}  in all", self.messages());
         println!("messages accepted by type:");
         for layouts in LAYOUTS.chunks(8) {
             let counts = layouts.iter().map(|layout| layout.message_type);
@@ -117,6 +112,14 @@ impl Ledger {
             && self.met.iter().all(|&count| count > 0)
             && self.fresh[0] > 0
             && self.fresh[14] > 0
+    }
+
+    pub fn messages(&self) -> u64 {
+        self.sources.iter().map(|(_, count)| count).sum()
+    }
+
+    pub fn met(&self) -> &[u64] {
+        &self.met
     }
 }
 

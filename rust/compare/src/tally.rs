@@ -100,19 +100,22 @@ impl Tally {
 
     /// Prints the summary; true if all was met and nothing differed.
     pub fn finish(&self) -> bool {
-        let total: u64 = self.sources.iter().map(|(_, count)| count).sum();
         println!("inputs by source (each asked twice, against unmapped bytes behind and before):");
         for (name, count) in &self.sources {
             println!("  {count:>9}  {name}");
         }
-        println!("  {total:>9}  in all");
-        println!("number met: how often");
-        for (number, count) in self.met.iter().enumerate() {
-            println!("  {number}: {count:>9}");
-        }
+        println!("  {:>9}  in all", self.messages());
         let types = self.accepted.iter().filter(|&&accepted| accepted).count();
         println!("types accepted at least once: {types} of 23");
-        println!("mismatches: {}", self.mismatches);
+        println!("mismatches in the reading: {}", self.mismatches);
         self.mismatches == 0 && types == 23 && self.met.iter().all(|&count| count > 0)
+    }
+
+    pub fn messages(&self) -> u64 {
+        self.sources.iter().map(|(_, count)| count).sum()
+    }
+
+    pub fn met(&self) -> &[u64] {
+        &self.met
     }
 }
