@@ -1,5 +1,6 @@
 //! The table of `apply`.
 
+use crate::report::{grouped, Table};
 use crate::rounds::measure;
 use crate::stretch::{Fill, Kind, Work};
 
@@ -27,28 +28,28 @@ const KINDS: [(Kind, &str); 6] = [
 pub fn table(rounds: Option<usize>) -> bool {
     let rounds = rounds.unwrap_or(ROUNDS);
     heading(rounds);
+    let table = Table::new(
+        &[("slots", 0), ("fill", 12), ("workload", 17)],
+        &["by bits", "by eights"],
+        &[],
+    );
     for words in SIZES {
         for (fill, filled) in FILLS {
             for (kind, name) in KINDS {
                 if kind == Kind::Refused && fill != Fill::Full {
                     continue;
                 }
-                let start = format!("{:>5}  {filled:<12}  {name:<18}", 64 * words);
-                let work = Work::new(words, fill, kind);
+                let slots = grouped(64 * words as u64);
                 let calls = (
                     face::apply,
                     fast::apply_numbers,
                     fast::apply_numbers_by_eights,
                 );
-                let Some([product, bits, eights]) = measure(&work, rounds, calls) else {
-                    println!("{start} the calls differ");
+                let Some(times) = measure(&Work::new(words, fill, kind), rounds, calls) else {
+                    println!("{slots} slots, {filled}, {name}: the calls differ");
                     return false;
                 };
-                println!(
-                    "{start} {product:>8.1} {bits:>8.1} {:>6.2} {eights:>9.1} {:>6.2}",
-                    product / bits,
-                    product / eights
-                );
+                table.row(&[&slots, filled, name], &times, &[]);
             }
         }
     }
@@ -75,10 +76,6 @@ fn heading(rounds: usize) {
     println!("product does. Rust is not inlined; opt-level 3, thin LTO, no CPU flags.");
     method(rounds);
     println!();
-    println!(
-        "{:>5}  {:<12}  {:<18} {:>8} {:>8} {:>6} {:>9} {:>6}",
-        "slots", "fill", "workload", "product", "by bits", "ratio", "by eights", "ratio"
-    );
 }
 
 fn method(rounds: usize) {

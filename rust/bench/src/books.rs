@@ -9,10 +9,10 @@ const SEED: u64 = 0x626F_6F6B_7321;
 const STOCKS: u64 = 8;
 const PRICES: u64 = 20;
 
-/// Slots of all books together, at least: enough that no branch predictor learns them.
-const SLOTS: usize = 1 << 14;
+/// Live slots of all books together: enough that no branch predictor learns them.
+const LIVE: usize = 1 << 14;
 
-/// Slots that the questions of one round are about, and those that are timed at one go: few enough
+/// Live slots that the questions of one round read, and those that are timed at one go: few enough
 /// that it is seldom interrupted.
 const ROUND: usize = 1 << 19;
 const GROUP: usize = 1 << 15;
@@ -37,10 +37,11 @@ pub struct Books {
 impl Books {
     pub fn new(words: usize, fill: Fill) -> Self {
         let mut random = Random::new(SEED);
-        let orders: Vec<_> = (0..SLOTS / (64 * words))
+        let live = fill.live(64 * words);
+        let orders: Vec<_> = (0..LIVE / live)
             .map(|_| book(words, fill, &mut random))
             .collect();
-        let count = ROUND / (64 * words);
+        let count = ROUND / live;
         let asked = (0..count).map(|turn| {
             // One book after the other.
             let book = turn % orders.len();
@@ -49,7 +50,7 @@ impl Books {
         Books {
             asked: asked.collect(),
             books: orders.into_iter().map(|(book, _)| book.numbers).collect(),
-            at_once: GROUP / (64 * words),
+            at_once: GROUP / live,
         }
     }
 
@@ -73,14 +74,12 @@ fn book(words: usize, fill: Fill, random: &mut Random) -> (FlatBook, Vec<SlotNum
     let mut book = FlatBook::empty(words);
     let mut slots: Vec<usize> = (0..book.slots()).collect();
     if fill == Fill::Spread {
-        for place in 0..slots.len() / 2 {
+        for place in 0..fill.live(slots.len()) {
             let other = place + random.place(slots.len() - place);
             slots.swap(place, other);
         }
     }
-    if fill != Fill::Full {
-        slots.truncate(book.slots() / 2);
-    }
+    slots.truncate(fill.live(book.slots()));
     let mut orders = vec![];
     for slot in slots {
         let order = order(random);

@@ -6,6 +6,9 @@ use samples::{Layout, Random};
 /// Stocks, by locates from 1 on.
 const STOCKS: u64 = 256;
 
+/// Prices of a stock's side.
+const PRICES: u64 = 20;
+
 /// Shares of a new order: enough for thousands of partial executions.
 const LOT: u64 = 10_000_000;
 
@@ -24,6 +27,7 @@ const DAY: [(u8, u64); 7] = [
 struct Live {
     reference: u64,
     locate: u64,
+    side: u8,
     remains: u64,
 }
 
@@ -75,7 +79,17 @@ impl Desk {
         Live {
             reference: self.random.number(),
             locate: 1 + self.random.below(STOCKS),
+            side: *self.random.one_of(b"BS"),
             remains: LOT + self.random.below(LOT),
+        }
+    }
+
+    /// A price of the order's stock and side.
+    fn price(&mut self, order: Live) -> u64 {
+        let (middle, step) = (10_000 * order.locate, 100 * self.random.below(PRICES));
+        match order.side {
+            b'B' => middle - step,
+            _ => middle + 100 + step,
         }
     }
 
@@ -89,8 +103,10 @@ impl Desk {
         let given = [
             ("Stock Locate", order.locate),
             ("Order Reference Number", order.reference),
+            ("Buy/Sell Indicator", order.side.into()),
             ("Shares", order.remains),
             ("Stock", symbol(order.locate)),
+            ("Price", self.price(order)),
         ];
         self.message(message_type, &given)
     }
@@ -139,16 +155,18 @@ impl Desk {
     pub fn replace(&mut self) -> Vec<u8> {
         let place = self.random.place(self.live.len());
         let order = self.live[place];
-        let new = self.new_order();
-        self.live[place] = Live {
+        let new = Live {
             locate: order.locate,
-            ..new
+            side: order.side,
+            ..self.new_order()
         };
+        self.live[place] = new;
         let given = [
             ("Stock Locate", order.locate),
             ("Original Order Reference Number", order.reference),
             ("New Order Reference Number", new.reference),
             ("Shares", new.remains),
+            ("Price", self.price(new)),
         ];
         self.message(b'U', &given)
     }

@@ -1,6 +1,7 @@
 //! The table of `read`.
 
 use crate::measure::measure;
+use crate::report::Table;
 use crate::workload::{workloads, MESSAGES};
 
 const ROUNDS: usize = 61;
@@ -9,18 +10,14 @@ const ROUNDS: usize = 61;
 pub fn table(rounds: Option<usize>) -> bool {
     let rounds = rounds.unwrap_or(ROUNDS);
     heading(rounds);
+    let table = Table::new(&[("workload", 18)], &["Rust", "by enum"], &[]);
     for work in workloads() {
         let readers = (face::read, fast::read_numbers, fast::read_numbers_by_enum);
-        let Some([product, rust, by_enum]) = measure(&work, rounds, readers) else {
-            println!("{:<18} the readers differ", work.name);
+        let Some(times) = measure(&work, rounds, readers) else {
+            println!("{}: the readers differ", work.name);
             return false;
         };
-        let ratio = product / rust;
-        println!(
-            "{:<18} {product:>10.2} {rust:>8.2} {ratio:>6.2} {by_enum:>8.2} {:>6.2}",
-            work.name,
-            product / by_enum
-        );
+        table.row(&[&work.name], &times, &[]);
     }
     true
 }
@@ -35,8 +32,4 @@ fn heading(rounds: usize) {
     println!("the readers in turn, {rounds} rounds each, the median in ns per message;");
     println!("answers compared throughout; ratio: product / Rust, product / by enum.");
     println!();
-    println!(
-        "{:<18} {:>10} {:>8} {:>6} {:>8} {:>6}",
-        "workload", "product", "Rust", "ratio", "by enum", "ratio"
-    );
 }

@@ -19,6 +19,19 @@ pub enum Fill {
     Spread,
     /// The lower half.
     Packed,
+    /// That many of the lowest slots.
+    First(usize),
+}
+
+impl Fill {
+    /// Live slots of a book.
+    pub fn live(self, slots: usize) -> usize {
+        match self {
+            Fill::Full => slots,
+            Fill::Spread | Fill::Packed => slots / 2,
+            Fill::First(live) => live,
+        }
+    }
 }
 
 #[derive(Clone, Copy, PartialEq)]
@@ -84,10 +97,10 @@ fn prepared(slots: usize, fill: Fill) -> (Tables, Desk) {
         book: vec![0; 257 * slots / 64],
     };
     tables.take_in(desk.registrations());
+    let live = fill.live(slots);
     let (added, deleted) = match fill {
-        Fill::Full => (slots, 0),
-        Fill::Spread => (slots, slots / 2),
-        Fill::Packed => (slots / 2, 0),
+        Fill::Spread => (slots, slots - live),
+        _ => (live, 0),
     };
     // Every twentieth order has an attribution of its own.
     let kind = |order| if order % 20 == 0 { b'F' } else { b'A' };
@@ -97,9 +110,9 @@ fn prepared(slots: usize, fill: Fill) -> (Tables, Desk) {
 }
 
 fn stretch(mut desk: Desk, slots: usize, fill: Fill, kind: Kind, length: usize) -> Messages {
-    let (least, most) = match fill {
-        Fill::Full => (slots - 2, slots),
-        _ => (slots / 2 - slots / 32, slots / 2 + slots / 32),
+    let (least, most) = match fill.live(slots) {
+        live if live == slots => (slots - 2, slots),
+        live => (live - live / 16, live + live / 16),
     };
     let mut place = 0;
     Messages::new(length, || {
