@@ -11,6 +11,7 @@ mod faults;
 mod flow;
 mod layouts;
 mod make;
+pub mod orders;
 mod random;
 mod slots;
 mod twist;

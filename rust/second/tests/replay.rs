@@ -4,23 +4,11 @@ mod common;
 
 use common::replayed::*;
 use common::*;
-use samples::{sample_with, stream_of};
+use samples::{orders, stream_of};
 use second::replay::replay;
 use second::{CONFLICT, FULL, LENGTH, STOCK, TYPE};
 use std::cell::RefCell;
 use std::io::{self, Read, Write};
-
-fn order(locate: u64, stock: u64, reference: u64, side: u8, shares: u64, price: u64) -> Vec<u8> {
-    let sets = [
-        ("Stock Locate", locate),
-        ("Stock", stock),
-        ("Order Reference Number", reference),
-        ("Buy/Sell Indicator", side.into()),
-        ("Shares", shares),
-        ("Price", price),
-    ];
-    sample_with(b'A', &sets)
-}
 
 #[test]
 fn the_whole_case() {
@@ -162,14 +150,26 @@ fn a_full_book() {
 
 #[test]
 fn locates_from_1_to_2_047() {
+    let at = |locate, reference| {
+        let (side, price) = (b'S', 0);
+        orders::add(
+            b'A',
+            Order {
+                locate,
+                side,
+                price,
+                ..order(reference)
+            },
+        )
+    };
     let messages = [
         register(2_047, ZVZZT),
         register(2_048, ZVZZT),
         register(0, ZVZZT),
         register(65_535, ZVZZT),
-        order(2_047, ZVZZT, 1, b'S', 10, 0),
-        order(2_048, ZVZZT, 2, b'S', 10, 0),
-        order(2_046, ZVZZT, 3, b'S', 10, 0),
+        at(2_047, 1),
+        at(2_048, 2),
+        at(2_046, 3),
         register(2_047, ZXZZT),
         execute(2_048, 1, 3),
         execute(2_047, 1, 3),
@@ -182,7 +182,7 @@ fn locates_from_1_to_2_047() {
         refusal(7, STOCK),
         refusal(8, CONFLICT),
         refusal(9, CONFLICT),
-        level(b's', 2_047, 0, 7, 1),
+        level(b's', 2_047, 0, 297, 1),
         counts(10, 7),
     ];
     assert_eq!(records(&stream_of(&messages)), expected.concat());
@@ -197,7 +197,16 @@ fn by_rising_locate_buys_then_sells_best_first() {
         for price in prices {
             for side in *b"SB" {
                 reference += 1;
-                messages.push(order(locate, stock, reference, side, 4_294_967_295, price));
+                let shares = 4_294_967_295;
+                let order = Order {
+                    locate,
+                    stock,
+                    reference,
+                    side,
+                    shares,
+                    price,
+                };
+                messages.push(orders::add(b'A', order));
             }
         }
     }

@@ -1,13 +1,12 @@
 //! Tables and messages for the tests: one stock, ZVZZT at locate 1, and samples with some fields set.
-#![allow(dead_code, reason = "each test file uses a part")]
+#![allow(dead_code, unused_imports, reason = "each test file uses a part")]
 
 pub mod replayed;
 
-use samples::{sample_with, FlatBook, SlotNumbers};
+pub use samples::orders::{delete, order, register, replace, Order, ZVZZT, ZXZZT};
+use samples::{orders, FlatBook, SlotNumbers};
 use second::Tables;
 
-pub const ZVZZT: u64 = 0x5A56_5A5A_5420_2020;
-pub const ZXZZT: u64 = 0x5A58_5A5A_5420_2020;
 /// ZVZZT at locate 1 and ZXZZT at locate 2; 3 is not registered.
 pub const DIRECTORY: [u64; 4] = [0, ZVZZT, ZXZZT, 0];
 
@@ -43,56 +42,15 @@ pub fn sound(reference: u64) -> SlotNumbers {
 
 /// A buy of 300 ZVZZT at 100,000.
 pub fn add(reference: u64) -> Vec<u8> {
-    let sets = [
-        ("Stock Locate", 1),
-        ("Order Reference Number", reference),
-        ("Buy/Sell Indicator", u64::from(b'B')),
-        ("Shares", 300),
-        ("Price", 100_000),
-    ];
-    sample_with(b'A', &sets)
+    orders::add(b'A', order(reference))
 }
 
 pub fn execute(locate: u64, reference: u64, shares: u64) -> Vec<u8> {
-    let sets = [
-        ("Stock Locate", locate),
-        ("Order Reference Number", reference),
-        ("Executed Shares", shares),
-    ];
-    sample_with(b'E', &sets)
+    orders::take(b'E', locate, reference, shares)
 }
 
 pub fn cancel(locate: u64, reference: u64, shares: u64) -> Vec<u8> {
-    let sets = [
-        ("Stock Locate", locate),
-        ("Order Reference Number", reference),
-        ("Cancelled Shares", shares),
-    ];
-    sample_with(b'X', &sets)
-}
-
-pub fn delete(locate: u64, reference: u64) -> Vec<u8> {
-    let sets = [
-        ("Stock Locate", locate),
-        ("Order Reference Number", reference),
-    ];
-    sample_with(b'D', &sets)
-}
-
-/// Into 70 shares at 99,900.
-pub fn replace(locate: u64, original: u64, new: u64) -> Vec<u8> {
-    let sets = [
-        ("Stock Locate", locate),
-        ("Original Order Reference Number", original),
-        ("New Order Reference Number", new),
-        ("Shares", 70),
-        ("Price", 99_900),
-    ];
-    sample_with(b'U', &sets)
-}
-
-pub fn register(locate: u64, symbol: u64) -> Vec<u8> {
-    sample_with(b'R', &[("Stock Locate", locate), ("Stock", symbol)])
+    orders::take(b'X', locate, reference, shares)
 }
 
 /// The number alone; a refusal must leave both tables as they were.
