@@ -13,4 +13,5 @@ fn main() {
     println!("cargo:rerun-if-changed={}", archive.display());
     println!("cargo:rustc-link-search=native={}", directory.display());
     println!("cargo:rustc-link-lib=static=ladlemoss");
+    println!("cargo:rustc-env=LADLEMOSS_ARCHIVE={}", archive.display());
 }

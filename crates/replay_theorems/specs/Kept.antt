@@ -13,7 +13,8 @@ use Rattle.apply_theorems.specs.Means.{shaped-words}
 use Rattle.moves.specs.Lawful.{Bytes}
 use Rattle.runs.specs.Runs.{Tables}
 use Rattle.runs.specs.Statements.{Start, Healthy}
-use Rattle.runs.specs.Healthy.{Fitting, healthy-start, fitting-start, healthy-shaped, healthy-sound, healthy-onward, fitting-onward, healthy-few}
+use Rattle.runs.specs.Healthy.{Fitting, healthy-start, fitting-start, healthy-shaped, healthy-sound, healthy-onward, fitting-onward}
+use Rattle.runs.specs.Damage.{healthy-few}
 use Rattle.blocks.specs.Blocks.{body, behind}
 use Rattle.feed.specs.Feed.{Day, onward, ran}
 use Rattle.ladders.specs.Ladders.{readable}

@@ -1,16 +1,18 @@
 -- BOOKS AGREE (`agree`): from tables made fresh, alike for they are empty, no message tells apart two books that are never full,
--- whatever their sizes. And tables of the same lengths are made fresh to the same tables (`same-tables`). Assumes nothing.
+-- whatever their sizes. Tables of good shapes are made fresh to `start` (`made-start`), so two tasks whose tables have the same lengths
+-- start, and stay, equal (`tasks-agree`). Assumes nothing.
 use mathlib.Core.Path.{_≡_, refl, sym, ap, _∙_}
-use mathlib.Core.Bool.{true, cond, _&&_}
+use mathlib.Core.Bool.{Bool, true, false, cond}
 use mathlib.Core.List.{List, [], _∷_, List·Memᴰ·head as here, List·Memᴰ·tail as there}
-use Prim.Native.Nat.{ℕ}
-use lib.Dec.{ltb}
+use Prim.Native.Nat.{ℕ, _*_}
+use native.Mathlib.Omega.{arith}
 use lib.ListN.{length, replicate}
 use Rattle.book.specs.Book.{wordsOf}
-use Rattle.directory.specs.Directory.{goodLength}
-use Rattle.fresh.specs.Fresh.{goodShapes, freshOf}
-use Rattle.runs.specs.Runs.{Tables, onward, answered, reached, said}
-use Rattle.runs.specs.Statements.{Run, Start, start, Alike, BothRoom, NeverFull, Agree}
+use Rattle.fresh.specs.declared.Made.the-variants.{Fresh, Refused}
+use Rattle.fresh.specs.Fresh.{goodShapes, madeNumber, madeOf, freshOf}
+use Rattle.apply_theorems.specs.Means.{shaped-good, good-shaped}
+use Rattle.runs.specs.Runs.{Tables, made, onward, answered, reached, said}
+use Rattle.runs.specs.Statements.{Run, Start, start, MadeStart, Alike, BothRoom, NeverFull, TasksAgree, Agree}
 use Rattle.runs.specs.Healthy.{Fitting, healthy-start, fitting-start, fitting-onward}
 use Rattle.runs.specs.RunLaws.{fresh-total}
 use Rattle.runs.specs.AlikeAsks.{asks-alike}
@@ -62,15 +64,40 @@ made-fresh : (d b t : List ℕ) → goodShapes d b ≡ true → freshOf d b t �
 unfolding freshOf
 made-fresh d b t e = ap (λ x. cond x (replicate (length t) 0) t) e
 
-same-shapes : (d b d′ b′ : List ℕ) → length d ≡ length d′ → length b ≡ length b′ → goodShapes d b ≡ goodShapes d′ b′
-unfolding goodShapes
-same-shapes d b d′ b′ e f = λ i. goodLength (e i) && ltb 0 (wordsOf (f i))
+pub made-start : (n k : ℕ) (d b : List ℕ) → Start n k → length d ≡ n → length b ≡ 257 * k → MadeStart n k d b
+unfolding madeOf
+made-start n k d b z e f =
+    let good : goodShapes d b ≡ true =
+    shaped-good (record { least = omega (arith, z .least); most = omega (arith, z .most); some = z .some; few = z .few; size = f }) in
+    record {
+      number = ap (λ x. madeNumber (cond x Fresh (Refused (record { number = 14 })))) good;
+      tables = λ i. record {
+        directory = (made-fresh d b d good ∙ ap (λ (m : ℕ). replicate m 0) e) i;
+        book = (made-fresh d b b good ∙ ap (λ (m : ℕ). replicate m 0) f) i;
+      };
+    }
 
--- two tasks with tables of the same lengths start from the same tables; what a run says and where it comes to are functions of them
-pub same-tables : (d b d′ b′ : List ℕ) → length d ≡ length d′ → length b ≡ length b′ → goodShapes d b ≡ true
-    → (freshOf d b d ≡ freshOf d′ b′ d′) × (freshOf d b b ≡ freshOf d′ b′ b′)
-same-tables d b d′ b′ e f good =
-    let good′ = sym (same-shapes d b d′ b′ e f) ∙ good in (
-      made-fresh d b d good ∙ ap (λ (i : ℕ). replicate i 0) e ∙ sym (made-fresh d′ b′ d′ good′),
-      made-fresh d b b good ∙ ap (λ (i : ℕ). replicate i 0) f ∙ sym (made-fresh d′ b′ b′ good′),
-    )
+-- ---- two tasks
+
+-- tables that were made fresh had good shapes
+were-good : (d b : List ℕ) → madeNumber (madeOf d b) ≡ 0 → goodShapes d b ≡ true
+unfolding madeOf
+were-good d b e = go (goodShapes d b) e
+  where
+    go : (x : Bool) → madeNumber (cond x Fresh (Refused (record { number = 14 }))) ≡ 0 → x ≡ true
+    go true e = refl
+    go false e = absurd (omega arith)
+
+pub tasks-agree : (d b d′ b′ : List ℕ) (ss : List (List ℕ)) → length d′ ≡ length d → length b′ ≡ length b → madeNumber (madeOf d b) ≡ 0
+    → TasksAgree d b d′ b′ ss
+tasks-agree d b d′ b′ ss e f made-one =
+    let s = good-shaped d b (were-good d b made-one) in
+    let z : Start (length d) (wordsOf (length b)) = record { least = s .least; most = s .most; some = s .some; few = s .few } in
+    let one = made-start (length d) (wordsOf (length b)) d b z refl (s .size) in
+    let other = made-start (length d) (wordsOf (length b)) d′ b′ z e (f ∙ s .size) in
+    let same : made d b ≡ made d′ b′ = one .tables ∙ sym (other .tables) in
+    record {
+      number = other .number;
+      answers = ap (λ (t : Tables). said t ss) same;
+      tables = ap (λ (t : Tables). reached t ss) same;
+    }

@@ -1,10 +1,8 @@
--- We never damage a table: tables made fresh are healthy and their numbers fit 64 bits, and both last through any message, so
--- through any run; healthy tables give neither 13 nor 14. Assumes nothing.
+-- Tables stay healthy: made fresh they are, and their numbers fit 64 bits, and both last through any message, so through any run.
+-- Assumes nothing.
 use mathlib.Core.Path.{_≡_, refl, sym, ap, subst, _∙_}
-use mathlib.Core.Logic.{_⊎_, inl, inr, _≢_}
-use mathlib.Core.Bool.{Bool, true, false, false≢true}
 use mathlib.Core.List.{List, [], _∷_, List·Memᴰ·head as here, List·Memᴰ·tail as there}
-use Prim.Native.Nat.{ℕ, zero, suc, _+_, _*_, _/_, _%_, _^_, _≤_}
+use Prim.Native.Nat.{ℕ, zero, suc, _+_, _*_, _/_, _%_, _^_}
 use native.Mathlib.Nat.{zero-div}
 use native.Mathlib.Omega.{arith}
 use lib.ListN.{getD, replicate, length-replicate}
@@ -13,32 +11,26 @@ use Rattle.messages.specs.declared.Answer.{Answer}
 use Rattle.messages.specs.declared.Answer.the-variants as read
 use Rattle.book.specs.Book.{live, numberAt}
 use Rattle.book.specs.Shape.{Sized}
-use Rattle.orders.specs.declared.Held.{Held}
-use Rattle.orders.specs.declared.Held.the-variants.{Sound, Unsound}
 use Rattle.reader.specs.Read.{answer}
-use Rattle.numbers.specs.Shown.{number}
-use Rattle.read_theorems.specs.Exactly.{exactly as read-exactly}
 use Rattle.decide.specs.Decide.{Verdict}
 use Rattle.decide.specs.Stored.{stored, enrolled}
-use Rattle.steps.specs.Asked.{Asked, register, start as begin, take, close, replace, nothing, asked}
+use Rattle.steps.specs.Asked.{Asked, asked}
 use Rattle.steps.specs.Steps.{judged, slotNamed}
 use Rattle.apply.specs.Apply.{After, applied}
 use Rattle.apply.specs.ApplyLaws.{unread, judgement}
 use Rattle.levels.specs.Totals.{total}
 use Rattle.levels.specs.TotalLaws.{none-total}
 use Rattle.levels.specs.Levels.{unsoundness}
-use Rattle.apply_theorems.specs.Statements.{Shaped, Broken, Earned, Judged, Given}
-use Rattle.apply_theorems.specs.Means.{shaped-good, shaped-words, shaped-unique}
-use Rattle.apply_theorems.specs.Exactly.{exactly}
+use Rattle.apply_theorems.specs.Statements.{Shaped}
+use Rattle.apply_theorems.specs.Means.{shaped-good, shaped-words}
 use Rattle.moves.specs.Lawful.{Bytes}
 use Rattle.moves.specs.Moves.{Numbers}
 use Rattle.moves.specs.Reads.{lawful}
 use Rattle.moves.specs.Facts.{Facts}
 use Rattle.moves.specs.Judged.{facts}
 use Rattle.moves.specs.Kept.{stored-length, enrolled-length, stored-numbers, enrolled-numbers}
-use Rattle.outcomes.specs.Outcomes.{numberOf}
-use Rattle.runs.specs.Runs.{Tables, onward, answered, reached}
-use Rattle.runs.specs.Statements.{Run, Start, start, Healthy, NeverDamaged}
+use Rattle.runs.specs.Runs.{Tables, onward, reached}
+use Rattle.runs.specs.Statements.{Run, Start, start, Healthy}
 use Rattle.runs.specs.Orderly.{Orderly, stored-orderly, enrolled-nought}
 
 -- every number of both tables fits 64 bits
@@ -167,58 +159,3 @@ healthy-reached n k ss z r = healthy-through n k ss (start n k) z (healthy-start
 
 pub fitting-reached : (n k : ℕ) (ss : List (List ℕ)) → Start n k → Run ss → Fitting (reached (start n k) ss)
 fitting-reached n k ss z r = healthy-through n k ss (start n k) z (healthy-start n k z) (fitting-start n k z) r .1
-
--- ---- neither 13 nor 14
-
-abbrev isSound : Held → Bool
-isSound (Sound o) = true
-isSound Unsound = false
-
--- no slot concerned is unsound
-orderly-whole : {d b : List ℕ} {k r : ℕ} → Orderly d b k → Broken b k r → ⊥
-orderly-whole h x =
-    let p = h .sound (x .slot) (x .lowest .inside) (x .lowest .alive) in
-    false≢true (ap isSound (sym (x .unsound) ∙ p .1))
-
--- a check that gives 12 or less, or never fails
-check : {P Q : Type 0} {c n : ℕ} → (P → c ≤ 12) → (Q → n ≤ 12) → (P × (n ≡ c)) ⊎ ((P → ⊥) × Q) → n ≤ 12
-check few next (inl x) = omega (arith, few (x .0), x .1)
-check few next (inr x) = next (x .1)
-
--- where no slot is broken, what is asked earns 12 or less
-earned-few : (d b : List ℕ) (k : ℕ) (a : Asked) (n : ℕ) → ((r : ℕ) → Broken b k r → ⊥) → Earned d b k a n → n ≤ 12
-earned-few d b k (register l symbol) n w = check (λ _. omega arith) (check (λ _. omega arith) (λ e. omega (arith, e)))
-earned-few d b k (begin o symbol) n w =
-    check (λ _. omega arith)
-    (check (λ _. omega arith) (check (λ _. omega arith) (check (λ _. omega arith) (λ e. omega (arith, e)))))
-earned-few d b k (take how r l c) n w =
-    check (λ _. omega arith)
-    (check (λ x. absurd (w r x)) (check (λ _. omega arith) (check (λ _. omega arith) (λ e. omega (arith, e)))))
-earned-few d b k (close r l) n w =
-    check (λ _. omega arith) (check (λ x. absurd (w r x)) (check (λ _. omega arith) (λ e. omega (arith, e))))
-earned-few d b k (replace original new l c p) n w =
-    check (λ _. omega arith)
-    (check (λ x. absurd (w original x)) (check (λ _. omega arith) (check (λ _. omega arith) (λ e. omega (arith, e)))))
-earned-few d b k nothing n w = λ e. omega (arith, e)
-
--- healthy tables give 12 or less, whatever the bytes
-pub healthy-few : (n k : ℕ) (t : Tables) (s : List ℕ) → Start n k → Healthy n k t → numberOf (answered t s) ≤ 12
-healthy-few n k t s z h = go (exactly (t .directory) (t .book) s (numberOf (answered t s)) .0 refl)
-  where
-    told : {j m : ℕ} → j ≡ k → ((number (answer s) ≡ m) × (m ≢ 0)) ⊎ Judged (t .directory) (t .book) s j m → m ≤ 12
-    told e (inl x) = omega (arith, x .0, read-exactly s .no-other)
-    told {j} {m} e (inr x) =
-        earned-few (t .directory) (t .book) j (asked (x .message)) m (λ r y. orderly-whole (healthy-orderly h) (rw e at y)) (x .earned)
-
-    go : Given (t .directory) (t .book) s (numberOf (answered t s)) → numberOf (answered t s) ≤ 12
-    go (inl x) = absurd (x .0 k (healthy-shaped z h))
-    go (inr x) = told (shaped-unique (x .1) (healthy-shaped z h)) (x .2)
-
-pub never-damaged : (n k : ℕ) (ss : List (List ℕ)) → Start n k → Run ss → NeverDamaged n k ss
-never-damaged n k ss z r =
-    let h = healthy-reached n k ss z r in
-    record {
-      healthy = h;
-      no-book = λ s e. omega (arith, healthy-few n k (reached (start n k) ss) s z h, e);
-      no-shape = λ s e. omega (arith, healthy-few n k (reached (start n k) ss) s z h, e);
-    }

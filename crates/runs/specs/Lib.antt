@@ -3,6 +3,7 @@ pub mod Ledger
 pub mod Statements
 pub mod Orderly
 pub mod Healthy
+pub mod Damage
 pub mod RunLaws
 pub mod LevelRuns
 pub mod OrderRuns

@@ -2,6 +2,7 @@
 use Prim.Native.Nat.{ℕ}
 use mathlib.Core.List.{List, [], _∷_}
 use lib.ListN.{replicate}
+use Rattle.fresh.specs.Fresh.{freshOf}
 use Rattle.apply.specs.declared.Outcome.{Outcome}
 use Rattle.apply.specs.Apply.{applied}
 
@@ -14,7 +15,11 @@ pub record Said : Type 0 where
   pub bytes : List ℕ
   pub outcome : Outcome
 
--- tables of these lengths, made fresh
+-- the tables that the call to make them fresh leaves of d and b
+abbrev pub made : List ℕ → List ℕ → Tables
+made d b = record { directory = freshOf d b d; book = freshOf d b b }
+
+-- tables of these lengths, all zero
 abbrev pub freshTables : ℕ → ℕ → Tables
 freshTables n m = record { directory = replicate n 0; book = replicate m 0 }
 

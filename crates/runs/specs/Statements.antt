@@ -21,9 +21,11 @@ use Rattle.levels.specs.declared.Quote.the-variants as quote
 use Rattle.census.specs.Census.{countAsked}
 use Rattle.levels.specs.Levels.{levelOf, bestOf, nextOf}
 use Rattle.levels.specs.Totals.{total}
+use Rattle.replies.specs.Replies.{accountNumber, quoteNumber, countNumber}
+use Rattle.fresh.specs.Fresh.{madeNumber, madeOf}
 use Rattle.moves.specs.Lawful.{Bytes}
 use Rattle.outcomes.specs.Outcomes.{numberOf}
-use Rattle.runs.specs.Runs.{Tables, Said, freshTables, onward, answered, reached, said}
+use Rattle.runs.specs.Runs.{Tables, Said, made, freshTables, onward, answered, reached, said}
 use Rattle.runs.specs.Ledger.{Line, noLife, life, linesOf, ledger, ofLevel, put, taken}
 
 -- any byte strings, in any order
@@ -39,6 +41,11 @@ pub record Start (n k : ℕ) : Type 0 where
 
 abbrev pub start : ℕ → ℕ → Tables
 start n k = freshTables n (257 * k)
+
+-- of tables of those lengths, whatever they held, the call to make them fresh answers 0 and leaves `start`
+pub record MadeStart (n k : ℕ) (d b : List ℕ) : Type 0 where
+  pub number : madeNumber (madeOf d b) ≡ 0
+  pub tables : made d b ≡ start n k
 
 -- ---- 1. by order
 
@@ -91,11 +98,19 @@ pub record Healthy (n k : ℕ) (t : Tables) : Type 0 where
   -- free slots are zero
   pub free : (s : ℕ) → s < 64 * k → live (t .book) s ≡ 0 → Zero (t .book) k s
 
--- 13 and 14 are never given
+-- neither BOOK nor SHAPE
+abbrev pub NoDamage : ℕ → Type 0
+NoDamage number = (number ≢ 13) × (number ≢ 14)
+
+-- after any run 13 and 14 are given to no message and to no question
 pub record NeverDamaged (n k : ℕ) (ss : List (List ℕ)) : Type 0 where
   pub healthy : Healthy n k (reached (start n k) ss)
-  pub no-book : (s : List ℕ) → numberOf (answered (reached (start n k) ss) s) ≢ 13
-  pub no-shape : (s : List ℕ) → numberOf (answered (reached (start n k) ss) s) ≢ 14
+  pub message : (s : List ℕ) → NoDamage (numberOf (answered (reached (start n k) ss) s))
+  pub order : (r : ℕ) → NoDamage (accountNumber (orderAsked (reached (start n k) ss .book) r))
+  pub level : (l byte p : ℕ) → NoDamage (quoteNumber (levelOf (reached (start n k) ss .book) l byte p))
+  pub best : (l byte : ℕ) → NoDamage (quoteNumber (bestOf (reached (start n k) ss .book) l byte))
+  pub next : (l byte p : ℕ) → NoDamage (quoteNumber (nextOf (reached (start n k) ss .book) l byte p))
+  pub count : NoDamage (countNumber (countAsked (reached (start n k) ss .book)))
 
 -- ---- 4. slots do not show
 
@@ -128,6 +143,13 @@ abbrev pub BothRoom : Tables → Tables → List ℕ → Type 0
 BothRoom t u s = (numberOf (answered t s) ≢ 12) × (numberOf (answered u s) ≢ 12)
 
 -- ---- 5. books agree
+
+-- two tasks whose tables had the same lengths and whose first was made fresh, with 0: so was the second; and lent the same messages they
+-- say the same answers and hold equal tables
+pub record TasksAgree (d b d′ b′ : List ℕ) (ss : List (List ℕ)) : Type 0 where
+  pub number : madeNumber (madeOf d′ b′) ≡ 0
+  pub answers : said (made d b) ss ≡ said (made d′ b′) ss
+  pub tables : reached (made d b) ss ≡ reached (made d′ b′) ss
 
 -- no answer of a run was FULL
 abbrev pub NeverFull : List Said → Type 0

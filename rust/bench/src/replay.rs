@@ -32,7 +32,7 @@ type Timed = (f64, Vec<u8>);
 /// Prints the table; false if the records ever differ, or there is no replay program.
 pub fn table(rounds: Option<usize>) -> bool {
     let rounds = rounds.unwrap_or(ROUNDS);
-    let program = match face::replay_program() {
+    let program = match streams::replay_program() {
         Ok(program) => program,
         Err(advice) => {
             println!("{advice}");

@@ -53,7 +53,7 @@ fn main() -> ExitCode {
             return ExitCode::from(2);
         }
     };
-    let compared = match face::replay_program() {
+    let compared = match streams::replay_program() {
         Ok(program) => compare(&program, count),
         Err(advice) => {
             eprintln!("{advice}");

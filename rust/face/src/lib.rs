@@ -1,7 +1,9 @@
-//! The product's C functions, as safe calls, and where its replay program is.
+//! The product's C functions, as safe calls. What is built on them needs no `unsafe` of its own.
 
-use std::env;
-use std::path::{Path, PathBuf};
+#![no_std]
+
+/// The archive that is linked; another language's test links the same.
+pub const ARCHIVE: &str = env!("LADLEMOSS_ARCHIVE");
 
 extern "C" {
     fn ladlemoss_read(bytes: *const u8, len: usize, out: *mut u64) -> u8;
@@ -167,24 +169,5 @@ pub fn symbol(directory: &[u64], bytes: &[u8], out: &mut [u64; 2]) {
             bytes.len(),
             out.as_mut_ptr(),
         )
-    }
-}
-
-/// The program that `rt check replay` makes, or the one that LADLEMOSS_REPLAY names; else what to do.
-pub fn replay_program() -> Result<PathBuf, String> {
-    let project = Path::new(env!("CARGO_MANIFEST_DIR")).ancestors().nth(2);
-    let project = project.expect("the project's folder");
-    let path = match env::var_os("LADLEMOSS_REPLAY") {
-        Some(path) => path.into(),
-        None => project.join("target/bin/replay"),
-    };
-    match path.is_file() {
-        true => Ok(path),
-        false => {
-            let path = path.display();
-            Err(format!(
-                "no replay program at {path}: run `rt check replay` first"
-            ))
-        }
     }
 }

@@ -40,7 +40,7 @@
 //! [`MwcbDeclineLevel`] in hundred-millionths.
 
 #![no_std]
-#![deny(unsafe_code)]
+#![forbid(unsafe_code)]
 #![warn(missing_docs)]
 
 mod auctions;
@@ -49,8 +49,6 @@ mod message;
 mod orders;
 mod outcome;
 mod questions;
-#[allow(unsafe_code)]
-mod raw;
 mod refusal;
 mod stocks;
 mod trades;
@@ -98,7 +96,7 @@ pub const fn book_length(words: usize) -> usize {
 /// ```
 pub fn read(bytes: &[u8]) -> Result<Message, Refusal> {
     let mut out = [0; 18];
-    Refusal::check(raw::read(bytes, &mut out))?;
+    Refusal::check(face::read(bytes, &mut out))?;
     accepted(&out)
 }
 
@@ -111,7 +109,7 @@ pub fn read(bytes: &[u8]) -> Result<Message, Refusal> {
 /// assert_eq!((directory, book), ([7; 2], [7; 256]));
 /// ```
 pub fn fresh(directory: &mut [u64], book: &mut [u64]) -> Result<(), Refusal> {
-    Refusal::check(raw::fresh(directory, book))
+    Refusal::check(face::fresh(directory, book))
 }
 
 /// The message of an accepted answer, whose first number is always one of the 23 types.

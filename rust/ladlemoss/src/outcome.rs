@@ -1,9 +1,9 @@
 //! One message applied to the tables, and what it comes to.
 
+use crate::accepted;
 use crate::field::{Field, Side};
 use crate::message::Message;
 use crate::refusal::Refusal;
-use crate::{accepted, raw};
 
 /// What the answer says of one order.
 #[derive(Clone, Copy, Debug, PartialEq, Eq, Hash)]
@@ -74,7 +74,7 @@ impl Outcome {
 pub fn apply(directory: &mut [u64], book: &mut [u64], bytes: &[u8]) -> Result<Outcome, Refusal> {
     let mut out = [0; 18];
     let mut figures = [0; 10];
-    let number = raw::apply(directory, book, bytes, &mut out, &mut figures);
+    let number = face::apply(directory, book, bytes, &mut out, &mut figures);
     Refusal::check(number)?;
     let message = accepted(&out)?;
     let [a, b, c, d, e, f, g, h, i, j] = figures;

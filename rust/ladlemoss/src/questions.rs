@@ -1,7 +1,6 @@
 //! What may be asked of the tables.
 
 use crate::field::{Field, Side};
-use crate::raw;
 use crate::refusal::Refusal;
 
 /// What the book holds of one live order.
@@ -39,7 +38,7 @@ pub struct Level {
 /// The account of the order with a reference; [`Refusal::NoOrder`] where none is live with it.
 pub fn order(book: &[u64], reference: u64) -> Result<Account, Refusal> {
     let mut out = [0; 8];
-    Refusal::check(raw::order(book, reference, &mut out))?;
+    Refusal::check(face::order(book, reference, &mut out))?;
     let [added, executed, cancelled, remaining, locate, side, price, attribution] = out;
     Ok(Account {
         added: Field::of(added),
@@ -65,7 +64,7 @@ pub fn order(book: &[u64], reference: u64) -> Result<Account, Refusal> {
 /// ```
 pub fn level(book: &[u64], locate: u16, side: Side, price: u32) -> Result<Level, Refusal> {
     let mut out = [0; 2];
-    Refusal::check(raw::level(book, locate, side.byte(), price, &mut out))?;
+    Refusal::check(face::level(book, locate, side.byte(), price, &mut out))?;
     let [total, count] = out;
     Ok(Level {
         price,
@@ -77,21 +76,21 @@ pub fn level(book: &[u64], locate: u16, side: Side, price: u32) -> Result<Level,
 /// The best level of a stock's side, the highest to buy or the lowest to sell; none where no order is.
 pub fn best(book: &[u64], locate: u16, side: Side) -> Result<Option<Level>, Refusal> {
     let mut out = [0; 4];
-    Refusal::check(raw::best(book, locate, side.byte(), &mut out))?;
+    Refusal::check(face::best(book, locate, side.byte(), &mut out))?;
     Ok(quote(out))
 }
 
 /// The next level of a stock's side that is worse than a price; none where none is.
 pub fn next(book: &[u64], locate: u16, side: Side, price: u32) -> Result<Option<Level>, Refusal> {
     let mut out = [0; 4];
-    Refusal::check(raw::next(book, locate, side.byte(), price, &mut out))?;
+    Refusal::check(face::next(book, locate, side.byte(), price, &mut out))?;
     Ok(quote(out))
 }
 
 /// How many orders are live.
 pub fn live_count(book: &[u64]) -> Result<u64, Refusal> {
     let mut out = [0; 1];
-    Refusal::check(raw::live(book, &mut out))?;
+    Refusal::check(face::live(book, &mut out))?;
     let [count] = out;
     Ok(count)
 }
@@ -112,7 +111,7 @@ pub fn live_count(book: &[u64]) -> Result<u64, Refusal> {
 /// ```
 pub fn symbol<'m>(directory: &[u64], message: &'m [u8]) -> &'m [u8] {
     let mut out = [0; 2];
-    raw::symbol(directory, message, &mut out);
+    face::symbol(directory, message, &mut out);
     let [start, length] = out.map(|number| number as usize);
     let rest = message.get(start..).unwrap_or_default();
     // A symbol always stands inside its message, so that neither default is needed.

@@ -24,7 +24,7 @@ fn the_c_example_prints_the_same() {
         .args(["-std=c99", "-Wall", "-Wextra", "-pedantic", "-Werror", "-I"])
         .arg(project.join("include"))
         .arg(project.join("examples/best.c"))
-        .arg(env!("LADLEMOSS_ARCHIVE"))
+        .arg(face::ARCHIVE)
         .arg("-o")
         .arg(&program)
         .status();

@@ -3,7 +3,10 @@
 
 mod books;
 mod ends;
+mod program;
 mod refusals;
+
+pub use program::replay_program;
 
 use std::path::PathBuf;
 

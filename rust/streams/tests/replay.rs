@@ -4,14 +4,12 @@ use std::ffi::{c_int, c_ulong};
 use std::fs::{self, File, OpenOptions};
 use std::io::{self, Read, Write};
 use std::os::fd::AsRawFd;
-use std::path::Path;
 use std::process::{Child, ChildStdin, Command, Stdio};
 use std::sync::mpsc;
 use std::thread;
 use std::time::{Duration, Instant};
 use streams::Stored;
 
-const PROGRAM: &str = concat!(env!("CARGO_MANIFEST_DIR"), "/../../target/bin/replay");
 const DEADLINE: Duration = Duration::from_secs(10);
 const MOMENT: Duration = Duration::from_micros(50);
 /// Streams below it are fed a byte at a time.
@@ -27,11 +25,8 @@ extern "C" {
 }
 
 fn program(input: impl Into<Stdio>, output: impl Into<Stdio>) -> Child {
-    assert!(
-        Path::new(PROGRAM).exists(),
-        "target/bin/replay is missing: run `rt check replay` first"
-    );
-    let mut command = Command::new(PROGRAM);
+    let program = streams::replay_program().unwrap_or_else(|missing| panic!("{missing}"));
+    let mut command = Command::new(program);
     command.stdin(input).stdout(output).spawn().unwrap()
 }
 
