@@ -3,8 +3,10 @@
 ghost use mathlib.Core.Path.{_≡_};
 ghost use lib.ListN.{length};
 ghost use Rattle.records.specs.Append.{appended, reach};
+ghost use Rattle.outcomes.specs.Outcomes.{numberOf};
 ghost use Rattle.feed.specs.Feed.{closes, counted, leaves, more, ranThrough, told};
 ghost use Rattle.feed.specs.Step.{stepped};
+use apply::Outcome;
 use blocks::Block;
 
 // How many messages there were, and how many of them were refused.
@@ -18,6 +20,18 @@ pub struct Fed {
     pub at: usize,
     pub written: usize,
     pub tally: Tally,
+}
+
+// The paper's number of an outcome: 0 where the message is accepted.
+fn number(o: Outcome) -> u8
+    ensures { λ r. ⌜ r ≡ numberOf o ⌝ }
+{
+    match o {
+        Outcome::Refused(refusal) => refusal.number,
+        Outcome::Accepted(_) => 0,
+        Outcome::Moved(_, _) => 0,
+        Outcome::Replaced(_, _, _) => 0,
+    }
 }
 
 // One more; a counter turns over.
@@ -68,7 +82,7 @@ fn message(
     ensures { λ r. ⌜ record { fed = r; directory = now (directory .exit); book = now (book .exit); out = now (out .exit) } ≡ stepped (now (bytes .entry)) end (record { fed = fed; directory = now (directory .entry); book = now (book .entry); out = now (out .entry) }) ⌝ }
 {
     let tally = fed.tally;
-    let number = outcomes::number(apply::apply(directory, book, bytes));
+    let number = number(apply::apply(directory, book, bytes));
     let written = tell(tally, number, fed.written, out);
     Fed {
         at: end,

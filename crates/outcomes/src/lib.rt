@@ -80,15 +80,3 @@ pub fn write(o: Outcome, out: &mut [u64; 18], figures: &mut [u64; 10]) -> u8
         }
     }
 }
-
-// The number of an outcome alone: 0 where the message is accepted.
-pub fn number(o: Outcome) -> u8
-    ensures { λ r. ⌜ r ≡ numberOf o ⌝ }
-{
-    match o {
-        Outcome::Refused(refusal) => refusal.number,
-        Outcome::Accepted(_) => 0,
-        Outcome::Moved(_, _) => 0,
-        Outcome::Replaced(_, _, _) => 0,
-    }
-}
