@@ -1,6 +1,6 @@
 //! A stream on its way, block by block, to the replay program, the second program and the C header.
 
-use crate::replaying::header::Header;
+use crate::replaying::by_c_calls::ReplayByCalls;
 use samples::Random;
 use std::io::{self, Read, Write};
 use std::sync::mpsc::{sync_channel, Receiver, SyncSender};
@@ -24,18 +24,18 @@ const PAUSE: Duration = Duration::from_micros(50);
 
 /// Where the blocks of a stream go.
 pub struct Feed<'a> {
-    header: &'a mut Header,
+    calls: &'a mut ReplayByCalls,
     chunk: Vec<u8>,
     programs: [SyncSender<Chunk>; 2],
 }
 
 impl<'a> Feed<'a> {
     /// The feed, and where the two programs get its chunks.
-    pub fn new(header: &'a mut Header) -> (Self, Receiver<Chunk>, Receiver<Chunk>) {
+    pub fn new(calls: &'a mut ReplayByCalls) -> (Self, Receiver<Chunk>, Receiver<Chunk>) {
         let (to_program, for_program) = sync_channel(WAITING);
         let (to_second, for_second) = sync_channel(WAITING);
         let feed = Feed {
-            header,
+            calls,
             chunk: vec![],
             programs: [to_program, to_second],
         };
@@ -45,30 +45,30 @@ impl<'a> Feed<'a> {
     /// A whole block; answers the number that the C header gives it.
     pub fn block(&mut self, bytes: &[u8]) -> u8 {
         self.push(bytes.len(), bytes);
-        self.header.block(bytes)
+        self.calls.block(bytes)
     }
 
     /// A last block with fewer bytes than its length says.
     pub fn cut_block(&mut self, length: usize, bytes: &[u8]) {
         self.push(length, bytes);
-        self.header.cut();
+        self.calls.cut();
     }
 
     /// Half a length, the last byte of a stream.
     pub fn half_length(&mut self, byte: u8) {
         self.chunk.push(byte);
-        self.header.cut();
+        self.calls.cut();
     }
 
     /// The stream's end; answers the records by the C header.
     pub fn end(mut self) -> Vec<u8> {
         self.send();
         let Feed {
-            header, programs, ..
+            calls, programs, ..
         } = self;
         // Without senders both inputs end, so that the programs go on at once.
         drop(programs);
-        header.finish()
+        calls.finish()
     }
 
     fn push(&mut self, length: usize, bytes: &[u8]) {

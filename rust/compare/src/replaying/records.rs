@@ -1,6 +1,6 @@
 //! The records that a replay writes: their lengths, how many there are, and where two lists differ.
 
-use crate::report::hex;
+use crate::reporting::hex;
 
 /// The length of a record by its kind.
 fn length(kind: u8) -> Option<usize> {
@@ -24,7 +24,7 @@ pub fn records(mut bytes: &[u8]) -> impl Iterator<Item = &[u8]> {
 }
 
 /// Where a list first differs from the one expected, in words; none where both are the same.
-pub fn difference(expected: &[u8], got: &[u8]) -> Option<String> {
+pub fn record_difference(expected: &[u8], got: &[u8]) -> Option<String> {
     if expected == got {
         return None;
     }
@@ -32,14 +32,14 @@ pub fn difference(expected: &[u8], got: &[u8]) -> Option<String> {
     loop {
         let (one, other) = (ours.next(), theirs.next());
         if one != other {
-            let (one, other) = (shown(one), shown(other));
+            let (one, other) = (start_of(one), start_of(other));
             return Some(format!("record {place}: expected {one}, got {other}"));
         }
         place += 1;
     }
 }
 
-fn shown(record: Option<&[u8]>) -> String {
+fn start_of(record: Option<&[u8]>) -> String {
     match record {
         None => "the end".into(),
         Some(record) => hex(&record[..record.len().min(32)]),
@@ -48,7 +48,7 @@ fn shown(record: Option<&[u8]>) -> String {
 
 #[cfg(test)]
 mod tests {
-    use super::{difference, records};
+    use super::{record_difference, records};
 
     const REFUSED: [u8; 10] = *b"r\0\0\0\0\0\0\0\x04\x0B";
     const LEVEL: [u8; 19] = *b"b\0\x01\0\x01\x86\xA0\0\0\0\0\0\0\0\xC8\0\0\0\x01";
@@ -59,17 +59,17 @@ mod tests {
         let whole = [&REFUSED[..], &LEVEL, &END].concat();
         let parts: Vec<_> = records(&whole).collect();
         assert_eq!(parts, [&REFUSED[..], &LEVEL, &END]);
-        assert_eq!(difference(&whole, &whole), None);
+        assert_eq!(record_difference(&whole, &whole), None);
         for place in 0..whole.len() {
             let mut other = whole.clone();
             other[place] ^= 1;
             let record = [10, 29].iter().filter(|end| **end <= place).count() + 1;
-            let words = difference(&whole, &other).expect("a difference");
+            let words = record_difference(&whole, &other).expect("a difference");
             assert!(words.starts_with(&format!("record {record}: ")), "{words}");
-            assert!(difference(&whole, &whole[..place]).is_some());
+            assert!(record_difference(&whole, &whole[..place]).is_some());
         }
         let longer = [&whole[..], b"?!"].concat();
-        let words = difference(&whole, &longer).expect("a difference");
+        let words = record_difference(&whole, &longer).expect("a difference");
         assert_eq!(words, "record 4: expected the end, got 3F21");
     }
 }

@@ -1,32 +1,20 @@
-//! Runs streams, counts what was met in them, and prints what differed.
+//! Runs streams through all three and holds the replay program to the other two.
 
+use crate::replaying::by_c_calls::ReplayByCalls;
+use crate::replaying::counts::ReplayCounts;
 use crate::replaying::feed::Feed;
-use crate::replaying::header::Header;
+use crate::replaying::one_stream::{run, Run};
 use crate::replaying::program::{ends_unheard, tells_at_once};
-use crate::replaying::records::{difference, records};
-use crate::replaying::run::{run, Run};
-use crate::report::SHOWN;
+use crate::replaying::records::record_difference;
 use samples::Random;
 use std::io;
 use std::path::{Path, PathBuf};
 
-/// What one source of streams came to.
-struct Source {
-    name: &'static str,
-    streams: u64,
-    messages: u64,
-    records: u64,
-}
-
-/// The counts of all streams.
+/// The replay program, what it is held to, and the counts.
 pub struct Replays {
     program: PathBuf,
-    header: Header,
-    sources: Vec<Source>,
-    /// How often each number was met.
-    met: [u64; 15],
-    levels: u64,
-    mismatches: u64,
+    calls: ReplayByCalls,
+    pub counts: ReplayCounts,
     /// It had to be stopped; no more streams are run, since each would be waited for.
     hangs: bool,
 }
@@ -35,33 +23,20 @@ impl Replays {
     pub fn new(program: &Path) -> Self {
         Replays {
             program: program.into(),
-            header: Header::new(),
-            sources: vec![],
-            met: [0; 15],
-            levels: 0,
-            mismatches: 0,
+            calls: ReplayByCalls::new(),
+            counts: ReplayCounts::new(),
             hangs: false,
         }
-    }
-
-    /// The streams from here on are of this source.
-    pub fn source(&mut self, name: &'static str) {
-        eprintln!("comparing: {name}");
-        self.sources.push(Source {
-            name,
-            streams: 0,
-            messages: 0,
-            records: 0,
-        });
     }
 
     /// Sees that the program tells refusals as they happen, and ends where it can tell nothing.
     pub fn manners(&mut self) -> io::Result<()> {
         if !tells_at_once(&self.program)? {
-            self.mismatch("a refusal is not told as it happens");
+            self.counts.mismatch("a refusal is not told as it happens");
         }
         if !ends_unheard(&self.program)? {
-            self.mismatch("it goes on, though nothing can be written");
+            self.counts
+                .mismatch("it goes on, though nothing can be written");
         }
         Ok(())
     }
@@ -78,79 +53,28 @@ impl Replays {
         let Run {
             program,
             second,
-            header,
+            calls,
             status,
-        } = run(&self.program, &mut self.header, random, make)?;
-        self.count(&second);
+        } = run(&self.program, &mut self.calls, random, make)?;
+        self.counts.replayed(&second);
         match status {
             None => {
-                self.mismatch("it does not end");
+                self.counts.mismatch("it does not end");
                 self.hangs = true;
             }
-            Some(status) if !status.success() => self.mismatch(&format!("{status}")),
+            Some(status) if !status.success() => self.counts.mismatch(&format!("{status}")),
             Some(_) => {}
         }
         self.expect("the second program's records", &second, &program);
-        self.expect("the records by the C header", &header, &program);
+        self.expect("the records by the C header", &calls, &program);
         Ok(program)
     }
 
     /// Holds what the program has written to what it should have.
     pub fn expect(&mut self, what: &str, expected: &[u8], program: &[u8]) {
-        if let Some(difference) = difference(expected, program) {
-            self.mismatch(&format!("beside {what}, {difference}"));
+        if let Some(difference) = record_difference(expected, program) {
+            self.counts
+                .mismatch(&format!("beside {what}, {difference}"));
         }
-    }
-
-    fn count(&mut self, written: &[u8]) {
-        let source = self.sources.last_mut().expect("a source is named first");
-        source.streams += 1;
-        for record in records(written) {
-            source.records += 1;
-            match record {
-                [b'r', .., number] => self.met[usize::from(*number)] += 1,
-                [b'z', counts @ ..] => {
-                    let count = |bytes: &[u8]| u64::from_be_bytes(bytes.try_into().expect("8"));
-                    let (messages, refused) = (count(&counts[..8]), count(&counts[8..]));
-                    source.messages += messages;
-                    self.met[0] += messages - refused;
-                }
-                _ => self.levels += 1,
-            }
-        }
-    }
-
-    fn mismatch(&mut self, what: &str) {
-        self.mismatches += 1;
-        if self.mismatches <= SHOWN {
-            let source = self.sources.last().expect("a source is named first");
-            println!("MISMATCH in {}, stream {}", source.name, source.streams);
-            println!("  {what}");
-        }
-    }
-
-    /// Prints the summary; true if all was met and nothing differed.
-    pub fn finish(&self) -> bool {
-        println!("messages replayed by source, records written, streams:");
-        for source in self.sources.iter().filter(|source| source.streams > 0) {
-            println!(
-                "  {:>9} {:>9} {:>6}  {}",
-                source.messages, source.records, source.streams, source.name
-            );
-        }
-        println!("  {:>9}  in all", self.messages());
-        println!("levels among the records: {}", self.levels);
-        println!("mismatches in the replays: {}", self.mismatches);
-        self.mismatches == 0 && self.met().iter().all(|&count| count > 0)
-    }
-
-    pub fn messages(&self) -> u64 {
-        self.sources.iter().map(|source| source.messages).sum()
-    }
-
-    /// Up to 12: the tables are of the paper's sizes and reached from fresh, so that 13 and 14 cannot
-    /// be met.
-    pub fn met(&self) -> &[u64] {
-        &self.met[..13]
     }
 }
