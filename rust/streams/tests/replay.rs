@@ -1,17 +1,17 @@
 //! The product's replay program on the stored streams: whole, in pieces, and with nowhere to write.
 
+mod common;
+
+use common::{all_of, control, ended, file, first_refusal, program, records_of};
+use common::{DEADLINE, MOMENT, UNTOLD};
 use std::ffi::{c_int, c_ulong};
-use std::fs::{self, File, OpenOptions};
-use std::io::{self, Read, Write};
-use std::os::fd::AsRawFd;
-use std::process::{Child, ChildStdin, Command, Stdio};
-use std::sync::mpsc;
+use std::fs::{File, OpenOptions};
+use std::io::{self, Write};
+use std::process::{Child, ChildStdin, Stdio};
 use std::thread;
-use std::time::{Duration, Instant};
+use std::time::Instant;
 use streams::Stored;
 
-const DEADLINE: Duration = Duration::from_secs(10);
-const MOMENT: Duration = Duration::from_micros(50);
 /// Streams below it are fed a byte at a time.
 const SMALL: usize = 200;
 /// Lengths of pieces, in turn.
@@ -20,49 +20,20 @@ const ODD: [usize; 8] = [1, 2, 3, 37, 4_095, 5, 65_537, 4_099];
 /// Linux's FIONREAD.
 const UNREAD: c_ulong = 0x541B;
 
-extern "C" {
-    fn ioctl(descriptor: c_int, request: c_ulong, ...) -> c_int;
-}
-
-fn program(input: impl Into<Stdio>, output: impl Into<Stdio>) -> Child {
-    let program = streams::replay_program().unwrap_or_else(|missing| panic!("{missing}"));
-    let mut command = Command::new(program);
-    command.stdin(input).stdout(output).spawn().unwrap()
-}
-
-/// Waits until the program ends by itself; whether it did so well.
-fn ended(mut child: Child, name: &str) -> bool {
-    let start = Instant::now();
-    while start.elapsed() < DEADLINE {
-        if let Some(status) = child.try_wait().unwrap() {
-            return status.success();
-        }
-        thread::sleep(MOMENT);
-    }
-    child.kill().unwrap();
-    child.wait().unwrap();
-    panic!("{name}: replay does not end");
-}
-
-/// Sees that the program writes the stored records and ends well.
+/// Sees that the program writes the stored records, tells nothing else and ends well.
 fn tells_the_records(mut child: Child, stored: &Stored) {
-    let mut output = child.stdout.take().unwrap();
-    let reader = thread::spawn(move || {
-        let mut records = vec![];
-        output.read_to_end(&mut records).map(|_| records)
-    });
-    assert!(ended(child, stored.name), "{}: replay fails", stored.name);
-    let records = reader.join().unwrap().unwrap();
-    let expected = fs::read(stored.records_file()).unwrap();
-    assert!(records == expected, "{}: other records", stored.name);
+    let written = all_of(child.stdout.take().unwrap());
+    let end = ended(child, stored.name);
+    assert!(end.status.success(), "{}: replay fails", stored.name);
+    assert_eq!(end.told, "", "{}", stored.name);
+    let same = written.join().unwrap() == records_of(stored);
+    assert!(same, "{}: other records", stored.name);
 }
 
 /// Bytes in the pipe that were not read yet.
 fn unread(input: &ChildStdin) -> c_int {
-    let mut bytes: c_int = 0;
-    // SAFETY: this request writes one int, and nothing else.
-    let done = unsafe { ioctl(input.as_raw_fd(), UNREAD, &raw mut bytes) };
-    assert_eq!(done, 0);
+    let mut bytes = 0;
+    control(input, UNREAD, &mut bytes);
     bytes
 }
 
@@ -91,10 +62,6 @@ fn fed_in_pieces(stored: &Stored, lengths: &[usize]) {
         scope.spawn(|| feed(input, &stored.stream, lengths));
         tells_the_records(child, stored);
     });
-}
-
-fn file(stored: &Stored) -> File {
-    File::open(stored.stream_file()).unwrap()
 }
 
 #[test]
@@ -132,27 +99,24 @@ fn a_byte_at_a_time() {
 fn a_refusal_is_told_as_it_happens() {
     let mut child = program(Stdio::piped(), Stdio::piped());
     let mut input = child.stdin.take().unwrap();
-    let mut output = child.stdout.take().unwrap();
-    let (sender, receiver) = mpsc::channel();
-    thread::spawn(move || {
-        let mut record = [0; 10];
-        sender.send(output.read_exact(&mut record).map(|()| record))
-    });
+    let output = child.stdout.take().unwrap();
     input.write_all(&[0, 0]).unwrap();
-    let told = receiver.recv_timeout(DEADLINE);
+    let told = first_refusal(output);
+    assert_eq!(told, *b"r\0\0\0\0\0\0\0\x01\x01");
     drop(input);
     ended(child, "an empty block");
-    let told = told.expect("replay does not wait for more").unwrap();
-    assert_eq!(told, *b"r\0\0\0\0\0\0\0\x01\x01");
 }
 
 /// Sees that the program ends by itself with a full device, and with a pipe that nobody reads.
 fn ends_unheard(input: impl Fn() -> File, name: &str) {
     let full = OpenOptions::new().write(true).open("/dev/full").unwrap();
-    ended(program(input(), full), name);
+    let end = ended(program(input(), full), name);
+    assert!(end.status.success(), "{name}: {}", end.status);
+    assert_eq!(end.told, UNTOLD, "{name}");
     let (reader, closed) = io::pipe().unwrap();
     drop(reader);
-    ended(program(input(), closed), name);
+    let end = ended(program(input(), closed), name);
+    assert_eq!(end.told, UNTOLD, "{name}");
 }
 
 #[test]
