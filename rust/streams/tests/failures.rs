@@ -40,18 +40,13 @@ fn reset_behind(stream: &[u8], name: &str) -> (Vec<u8>, Ended) {
     (written.join().unwrap(), end)
 }
 
-fn read_failed(end: &Ended, told: &str, name: &str) {
-    assert!(end.status.success(), "{name}: {}", end.status);
-    assert_eq!(end.told, format!("standard input: {told}\n"), "{name}");
-}
-
 #[test]
 fn a_refusal_stands_before_a_failed_read() {
     // Were this the end, the order's level and `z` would stand behind the refusal.
     let stream = stream_of(&[register(1, ZVZZT), add(b'A', order(5)), vec![]]);
     let (written, end) = reset_behind(&stream, "an empty block");
     assert_eq!(written, *b"r\0\0\0\0\0\0\0\x03\x01");
-    read_failed(&end, "Connection reset by peer", "an empty block");
+    end.told_of("input", "Connection reset by peer", "an empty block");
 }
 
 #[test]
@@ -59,7 +54,7 @@ fn a_failed_read_is_no_end_of_any_stream() {
     for stored in streams::all() {
         let (written, end) = reset_behind(&stored.stream, stored.name);
         assert!(written == refused_blocks(&stored), "{}", stored.name);
-        read_failed(&end, "Connection reset by peer", stored.name);
+        end.told_of("input", "Connection reset by peer", stored.name);
     }
 }
 
@@ -95,7 +90,7 @@ fn a_first_read_that_fails() {
     ] {
         let mut child = program(input, Stdio::piped());
         let written = all_of(child.stdout.take().unwrap());
-        read_failed(&ended(child, told), told, told);
+        ended(child, told).told_of("input", told, told);
         assert_eq!(written.join().unwrap(), b"");
     }
 }
@@ -121,8 +116,7 @@ fn a_reader_that_goes_away() {
     assert_eq!(end.status.signal(), Some(SIGPIPE));
     assert_eq!(end.told, UNTOLD);
     let end = left_alone(deaf_program(Stdio::piped(), Stdio::piped()));
-    assert!(end.status.success(), "{}", end.status);
-    assert_eq!(end.told, UNTOLD);
+    end.told_of("output", "Broken pipe", "a reader that goes away");
 }
 
 /// A pipe that takes so many bytes more and then fails, and how many are in it already.
@@ -143,8 +137,7 @@ fn narrow_pipe(room: usize) -> (PipeReader, PipeWriter, usize) {
 fn squeezed(stored: &Stored, room: usize) -> Vec<u8> {
     let (mut reader, writer, filled) = narrow_pipe(room);
     let end = ended(program(file(stored), writer), stored.name);
-    assert!(end.status.success(), "{}: {}", stored.name, end.status);
-    assert_eq!(end.told, UNTOLD, "{}", stored.name);
+    end.told_of("output", "Resource temporarily unavailable", stored.name);
     let mut bytes = vec![];
     reader.read_to_end(&mut bytes).unwrap();
     bytes.split_off(filled)

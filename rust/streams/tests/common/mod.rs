@@ -17,7 +17,7 @@ pub const MOMENT: Duration = Duration::from_micros(50);
 /// Linux's.
 pub const SIGPIPE: i32 = 13;
 
-/// Of a failed write nothing is told on standard error: the missing `z` alone shows it.
+/// What a program tells that a signal has ended.
 pub const UNTOLD: &str = "";
 
 extern "C" {
@@ -28,6 +28,14 @@ extern "C" {
 pub struct Ended {
     pub status: ExitStatus,
     pub told: String,
+}
+
+impl Ended {
+    /// Sees that the program told why a read or a write failed, and nothing else, and then ended well.
+    pub fn told_of(&self, what: &str, why: &str, name: &str) {
+        assert!(self.status.success(), "{name}: {}", self.status);
+        assert_eq!(self.told, format!("standard {what}: {why}\n"), "{name}");
+    }
 }
 
 pub fn program(input: impl Into<Stdio>, output: impl Into<Stdio>) -> Child {
