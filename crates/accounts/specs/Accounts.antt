@@ -5,12 +5,13 @@ use mathlib.Core.Bool.{cond}
 use mathlib.Core.List.{List}
 use lib.Dec.{eqb}
 use lib.ListN.{length}
+use Rattle.refusals.specs.Refusals.{BOOK, NO-ORDER, SHAPE, refusalOf}
 use Rattle.book.specs.Book.{find, wordsOf}
 use Rattle.orders.specs.declared.Order.{Order}
 use Rattle.orders.specs.declared.Held.the-variants.{Sound, Unsound}
 use Rattle.orders.specs.Order.{remaining}
-use Rattle.decide.specs.Decide.{Seen, nothing, something}
-use Rattle.decide.specs.Stored.{seenIn}
+use Rattle.decide.specs.Decide.{Seen, unseen, something}
+use Rattle.slots.specs.Stored.{seenIn}
 use Rattle.accounts.specs.declared.Account.{Account}
 use Rattle.accounts.specs.declared.Accounted.{Accounted}
 use Rattle.accounts.specs.declared.Accounted.the-variants.{Refused, Is}
@@ -29,11 +30,11 @@ accountOf o = record {
 
 -- 10 where the reference is not live, 13 where its slot is unsound
 abbrev pub accounted : Seen → Accounted
-accounted nothing = Refused (record { number = 10 })
-accounted (something Unsound) = Refused (record { number = 13 })
+accounted unseen = Refused (refusalOf NO-ORDER)
+accounted (something Unsound) = Refused (refusalOf BOOK)
 accounted (something (Sound o)) = Is (accountOf o)
 
 unfoldable pub orderAsked : List ℕ → ℕ → Accounted
 orderAsked b reference =
-    cond (eqb (wordsOf (length b)) 0) (Refused (record { number = 14 }))
+    cond (eqb (wordsOf (length b)) 0) (Refused (refusalOf SHAPE))
     (accounted (seenIn b (wordsOf (length b)) (find b (wordsOf (length b)) reference)))

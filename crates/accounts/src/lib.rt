@@ -2,14 +2,18 @@
 ghost use mathlib.Core.Path.{_≡_};
 ghost use Rattle.accounts.specs.Accounts.{accountOf, orderAsked};
 ghost use Prim.Native.Nat.{_+_, _≤_};
+ghost use Rattle.refusals.specs.Refusals.{refusalOf};
 use book::Found;
 use kinds::Locate;
 use kinds::Price;
 use kinds::Reference;
 use kinds::Side;
-use messages::Refusal;
 use orders::Held;
 use orders::Order;
+use refusals::BOOK;
+use refusals::NO_ORDER;
+use refusals::Refusal;
+use refusals::SHAPE;
 
 pub struct Account {
     pub added: u32,
@@ -28,9 +32,9 @@ pub enum Accounted {
 }
 
 fn refuse(n: u8) -> Accounted
-    ensures { λ r. ⌜ r ≡ Accounted.Refused (record { number = n }) ⌝ }
+    ensures { λ r. ⌜ r ≡ Accounted.Refused (refusalOf n) ⌝ }
 {
-    Accounted::Refused(Refusal { number: n })
+    Accounted::Refused(Refusal::of(n))
 }
 
 fn account_of(o: Order) -> Account
@@ -57,15 +61,15 @@ pub fn order(book: &[u64], reference: Reference) -> Accounted
 {
     let k = book::words_of(book.len());
     if k == 0 {
-        return refuse(14);
+        return refuse(SHAPE);
     }
     let found = search::find(book, k, reference);
     let Found::At(slot) = found else {
-        return refuse(10);
+        return refuse(NO_ORDER);
     };
     let held = slots::held_at(book, k, slot);
     let Held::Sound(o) = held else {
-        return refuse(13);
+        return refuse(BOOK);
     };
     Accounted::Is(account_of(o))
 }

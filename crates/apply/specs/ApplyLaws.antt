@@ -4,17 +4,18 @@ use mathlib.Core.Path.{_≡_, ap, _∙_}
 use mathlib.Core.Bool.{true, false}
 use mathlib.Core.List.{List}
 use lib.ListN.{length}
+use Rattle.refusals.specs.Refusals.{SHAPE, refusalOf}
 use Rattle.messages.specs.declared.Message.{Message}
-use Rattle.messages.specs.declared.Refusal.{Refusal}
+use Rattle.refusals.specs.declared.Refusal.{Refusal}
 use Rattle.messages.specs.declared.Answer.the-variants as read
 use Rattle.book.specs.Book.{wordsOf}
 use Rattle.fresh.specs.Fresh.{goodShapes}
 use Rattle.reader.specs.Read.{answer}
 use Rattle.steps.specs.Asked.{asked}
-use Rattle.steps.specs.Steps.{judged, slotNamed}
-use Rattle.apply.specs.Apply.{SHAPE, unchanged, settled, applyRead, applied}
+use Rattle.steps.specs.Steps.{verdictOn, slotSought}
+use Rattle.apply.specs.Apply.{unchanged, settled, applyRead, applied}
 
-pub bad-shapes : (d b s : List ℕ) → goodShapes d b ≡ false → applied d b s ≡ unchanged d b SHAPE
+pub bad-shapes : (d b s : List ℕ) → goodShapes d b ≡ false → applied d b s ≡ unchanged d b (refusalOf SHAPE)
 unfolding applied
 bad-shapes d b s e = rw e
 
@@ -26,5 +27,5 @@ pub unread : (d b s : List ℕ) {r : Refusal} → goodShapes d b ≡ true → an
 unread d b s e f = good-shapes d b s e ∙ ap (applyRead d b (wordsOf (length b))) f
 
 pub judgement : (d b s : List ℕ) {x : Message} → goodShapes d b ≡ true → answer s ≡ read.Good x
-    → applied d b s ≡ settled d b (wordsOf (length b)) x (slotNamed b (wordsOf (length b)) (asked x)) (judged d b (wordsOf (length b)) (asked x))
+    → applied d b s ≡ settled d b (wordsOf (length b)) x (slotSought b (wordsOf (length b)) (asked x)) (verdictOn d b (wordsOf (length b)) (asked x))
 judgement d b s e f = good-shapes d b s e ∙ ap (applyRead d b (wordsOf (length b))) f

@@ -1,11 +1,13 @@
 // The public call over both tables: any bytes to the answer that 01 fixes, with the tables changed as 01 says or not at all.
 ghost use mathlib.Core.Path.{_≡_};
-ghost use Rattle.apply.specs.Apply.{After, applied, concluded};
+ghost use Rattle.apply.specs.Apply.{applied, concluded};
+ghost use Rattle.refusals.specs.Refusals.{SHAPE, refusalOf};
 use decide::Figures;
 use decide::Step;
 use messages::Answer;
 use messages::Message;
-use messages::Refusal;
+use refusals::Refusal;
+use refusals::SHAPE;
 
 // What applying a message comes to: its refusal, its typed fields alone, or with the figures of the orders it concerns.
 pub enum Outcome {
@@ -27,9 +29,9 @@ fn conclude(m: Message, step: Step) -> Outcome
 }
 
 fn refuse_shape() -> Outcome
-    ensures { λ r. ⌜ r ≡ Outcome.Refused (record { number = 14 }) ⌝ }
+    ensures { λ r. ⌜ r ≡ Outcome.Refused (refusalOf SHAPE) ⌝ }
 {
-    Outcome::Refused(Refusal { number: 14 })
+    Outcome::Refused(Refusal::of(SHAPE))
 }
 
 // Applies one message to the directory and the book: 14, 1 to 6 and 7 to 13 are refused and change nothing.

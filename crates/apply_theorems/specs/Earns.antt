@@ -8,27 +8,29 @@ use Prim.Native.Nat.{ℕ, _<_}
 use native.Mathlib.Omega.{arith}
 use borrow.Author.Tests.{eqb-true, eqb-false, leb-true, leb-false}
 use lib.Dec.{eqb, leb}
-use lib.ListN.{getD}
+use Rattle.refusals.specs.Refusals.{BOOK, NO-ORDER}
+use Rattle.directory.specs.Directory.{entryAt}
 use Rattle.book.specs.declared.Found.{Found}
 use Rattle.book.specs.Book.{find, lowestFree}
 use Rattle.directory.specs.declared.Entry.{Entry}
+use Rattle.directory.specs.declared.Entry.the-variants as entry
+use Rattle.directory.specs.declared.Entry.the-variants.{Symbol}
 use Rattle.orders.specs.declared.Order.{Order}
 use Rattle.orders.specs.declared.Held.the-variants.{Sound, Unsound}
 use Rattle.orders.specs.Order.{remaining}
 use Rattle.decide.specs.declared.Step.{Step}
 use Rattle.decide.specs.declared.Step.the-variants as step
 use Rattle.decide.specs.Decide.{Verdict, refuse, enroll, pass, gate, stepOf}
-use Rattle.decide.specs.Decide.{Seen, nothing, something, registering, placing, taking, closing, replacing}
-use Rattle.decide.specs.Stored.{isAt}
+use Rattle.decide.specs.Decide.{Seen, unseen, something, registering, placing, taking, closing, replacing}
+use Rattle.slots.specs.Stored.{isAt}
 use Rattle.take.specs.Taken.{takenBy}
 use Rattle.steps.specs.Asked.{Asked, register, start, take, close, replace, nothing as no-more}
-use Rattle.steps.specs.Steps.{judged}
+use Rattle.steps.specs.Steps.{verdictOn}
 use Rattle.apply_theorems.specs.Statements.{Outside, Unlisted, Another, IsLive, Full, Broken, IsOrder, Elsewhere, Over, first, done, Earned}
-use Rattle.apply_theorems.specs.Sights.{lowest-live, Spot, spot, Sight, sight, order-unique, order-sound, Standing, standing, Room, room}
+use Rattle.apply_theorems.specs.Sights.{lowest-live, Spot, spot, Sight, sight, order-unique, order-sound, Room, room}
 use Rattle.apply_theorems.specs.Sights.Spot.{nowhere-live, lowest-at}
-use Rattle.apply_theorems.specs.Sights.Sight.{gone, broken, whole}
-use Rattle.apply_theorems.specs.Sights.Standing.{out, within}
-use Rattle.apply_theorems.specs.Sights.Room.{none, some}
+use Rattle.apply_theorems.specs.Sights.Sight.{found-nothing, found-unsound, found-order}
+use Rattle.apply_theorems.specs.Sights.Room.{no-room, some-room}
 
 -- the number of a step, and of a verdict
 abbrev pub stepNumber : Step → ℕ
@@ -88,8 +90,8 @@ is-full : (b : List ℕ) (k : ℕ) → Test (Full b k) (isAt (lowestFree b k))
 is-full b k = go (room b k)
   where
     go : {f : Found} → Room b k f → Test (Full b k) (isAt f)
-    go (none n) = fails n
-    go (some s l e) = passes (λ n. n (s .0) l e)
+    go (no-room n) = fails n
+    go (some-room s l e) = passes (λ n. n (s .0) l e)
 
 -- a gate is the first check, and what it lets through comes next
 check : {P : Type 0} {t : Bool} {v : Verdict} {rest : ℕ → Type 0} (c : ℕ) → Test P t → ((P → ⊥) → Comes v rest)
@@ -106,38 +108,50 @@ check-two c (passes n) (passes m) k = record { number = inr (⊎-elim m n, k .nu
 
 -- ---- what is asked
 
+-- no symbol stands outside
+within : (d : List ℕ) (l n : ℕ) → entryAt d l ≡ Symbol n → Outside d l → ⊥
+within d l n p q = let z : _≡_ {A = ℕ} 0 1 = cc in omega arith
+
+-- another symbol than n, where n is not 0
+another : (d : List ℕ) (l n symbol : ℕ) → entryAt d l ≡ Symbol n → n ≢ 0 → Test (Another d l symbol) (eqb n symbol)
+another d l n symbol p more =
+    alike
+    (λ x. record { other = n; stands = p; some = more; differs = x })
+    (λ a e. let same = a .stands in let q : a .other ≡ n = cc in a .differs (q ∙ e))
+    (differ n symbol)
+
 -- R: 7, 8
-registers : {d : List ℕ} (l symbol : ℕ) {e : Entry} → Standing d l e
+registers : (d : List ℕ) (l symbol : ℕ) (e : Entry) → entryAt d l ≡ e
     → Comes (registering e l symbol) (first (Outside d l) 7 (first (Another d l symbol) 8 done))
-registers l symbol (out o) = record { number = inl (o, refl) }
-registers {d} l symbol (within i) = record { number = inr (i, go (eqb (getD d l 0) 0) refl .number) }
+registers d l symbol entry.Outside p = record { number = inl (p, refl) }
+registers d l symbol (Symbol n) p = record { number = inr (within d l n p, go (eqb n 0) refl .number) }
   where
-    go : (t : Bool) → eqb (getD d l 0) 0 ≡ t
-        → Comes (cond t (enroll l symbol) (gate (eqb (getD d l 0) symbol) 8 pass)) (first (Another d l symbol) 8 done)
-    go true e = record { number = inr (λ a. a .0 (eqb-true _ _ e), refl) }
-    go false e = check 8 (alike (λ n. (eqb-false _ _ e, n)) (λ a. a .1) (differ (getD d l 0) symbol)) λ _. record { number = refl }
+    go : (t : Bool) → eqb n 0 ≡ t
+        → Comes (cond t (enroll l symbol) (gate (eqb n symbol) 8 pass)) (first (Another d l symbol) 8 done)
+    go true e = record { number = inr (λ a. let same = a .stands in let q : a .other ≡ n = cc in a .some (q ∙ eqb-true _ _ e), refl) }
+    go false e = check 8 (another d l n symbol p (eqb-false _ _ e)) λ _. record { number = refl }
 
 -- A, F: 7, 8, 9, 12
-places : {d : List ℕ} (b : List ℕ) (k l symbol : ℕ) (o : Order) {e : Entry} → Standing d l e
+places : (d b : List ℕ) (k l symbol : ℕ) (o : Order) (e : Entry) → entryAt d l ≡ e
     → Comes (placing e symbol (isAt (find b k (o .reference .0))) (isAt (lowestFree b k)) o)
     (first (Unlisted d l) 7 (first (Another d l symbol) 8 (first (IsLive b k (o .reference .0)) 9 (first (Full b k) 12 done))))
-places b k l symbol o (out i) = record { number = inl (inl i, refl) }
-places {d} b k l symbol o (within i) =
-    check 7 (alike inr (⊎-elim (λ x. absurd (i x)) (λ e. e)) (agree (getD d l 0) 0)) λ n.
-    check 8 (alike (λ x. (λ e. n (inr e), x)) (λ a. a .1) (differ (getD d l 0) symbol)) λ _.
+places d b k l symbol o entry.Outside p = record { number = inl (inl p, refl) }
+places d b k l symbol o (Symbol n) p =
+    check 7 (alike (λ z. inr (p ∙ ap Symbol z)) (⊎-elim (λ x. absurd (within d l n p x)) (λ (e : entryAt d l ≡ Symbol 0). cc)) (agree n 0)) λ z.
+    check 8 (another d l n symbol p (λ q. z (inr (p ∙ ap Symbol q)))) λ _.
     check 9 (is-live b k (o .reference .0)) λ _.
     check 12 (is-full b k) λ _.
     record { number = refl }
 
 -- E, C, X, D, U: 10, 13; next is what a sound order comes to
-pub named : {b : List ℕ} {k r s : ℕ} {z : Seen} {rest : ℕ → Type 0} (f : Seen → Verdict)
-    → f nothing ≡ refuse 10 → f (something Unsound) ≡ refuse 13
+pub named-comes : {b : List ℕ} {k r s : ℕ} {z : Seen} {rest : ℕ → Type 0} (f : Seen → Verdict)
+    → f unseen ≡ refuse NO-ORDER → f (something Unsound) ≡ refuse BOOK
     → Sight b k r s z → ((o : Order) → IsOrder b k r o → Comes (f (something (Sound o))) rest)
     → Comes (f z) (first (IsLive b k r → ⊥) 10 (first (Broken b k r) 13 rest))
-named f p q (gone n) next = record { number = inl (n, ap numberIn p) }
-named f p q (broken s w e) next =
+named-comes f p q (found-nothing n) next = record { number = inl (n, ap numberIn p) }
+named-comes f p q (found-unsound s w e) next =
     record { number = inr (λ n. n (lowest-live w), inl (record { slot = s; lowest = w; unsound = e }, ap numberIn q)) }
-named {b} {k} {r} f p q (whole s o w e) next =
+named-comes {b} {k} {r} f p q (found-order s o w e) next =
     let i : IsOrder b k r o = record { slot = s; lowest = w; sound = e } in
     record { number = inr (λ n. n (lowest-live w), inr (order-sound i, next o i .number)) }
 
@@ -158,17 +172,17 @@ over {o = o} n i =
     (above n (remaining o))
 
 -- the number of what is asked is one that 01 gives for it
-pub earned : (d b : List ℕ) (k : ℕ) (a : Asked) → Comes (judged d b k a) (Earned d b k a)
-earned d b k (register l symbol) = registers l symbol (standing d l)
-earned d b k (start o symbol) = places b k (o .locate .0) symbol o (standing d (o .locate .0))
+pub earned : (d b : List ℕ) (k : ℕ) (a : Asked) → Comes (verdictOn d b k a) (Earned d b k a)
+earned d b k (register l symbol) = registers d l symbol (entryAt d l) refl
+earned d b k (start o symbol) = places d b k (o .locate .0) symbol o (entryAt d (o .locate .0)) refl
 earned d b k (take how r l n) =
-    named (taking (takenBy how) l n) refl refl (sight b k r) λ o i.
+    named-comes (taking (takenBy how) l n) refl refl (sight b k r) λ o i.
     check 8 (elsewhere l i) λ _. check 11 (over n i) λ _. record { number = refl }
 earned d b k (close r l) =
-    named (closing l) refl refl (sight b k r) λ o i.
+    named-comes (closing l) refl refl (sight b k r) λ o i.
     check 8 (elsewhere l i) λ _. record { number = refl }
 earned d b k (replace original new l n p) =
-    named (replacing l original new n p (isAt (find b k new))) refl refl (sight b k original) λ o i.
+    named-comes (replacing l original new n p (isAt (find b k new))) refl refl (sight b k original) λ o i.
     check 8 (elsewhere l i) λ _. check-two 9 (agree new original) (is-live b k new) (record { number = refl })
 earned d b k no-more = record { number = refl }
 
@@ -178,19 +192,19 @@ earned d b k no-more = record { number = refl }
 abbrev pub One : (ℕ → Type 0) → Type 0
 One rest = (m n : ℕ) → rest m → rest n → m ≡ n
 
-pub one : {P : Type 0} {c : ℕ} {rest : ℕ → Type 0} → One rest → One (first P c rest)
-one o m n (inl x) (inl y) = x .1 ∙ sym (y .1)
-one o m n (inl x) (inr y) = absurd (y .0 (x .0))
-one o m n (inr x) (inl y) = absurd (x .0 (y .0))
-one o m n (inr x) (inr y) = o m n (x .1) (y .1)
+pub one-of : {P : Type 0} {c : ℕ} {rest : ℕ → Type 0} → One rest → One (first P c rest)
+one-of o m n (inl x) (inl y) = x .1 ∙ sym (y .1)
+one-of o m n (inl x) (inr y) = absurd (y .0 (x .0))
+one-of o m n (inr x) (inl y) = absurd (x .0 (y .0))
+one-of o m n (inr x) (inr y) = o m n (x .1) (y .1)
 
 pub last : One done
 last m n p q = p ∙ sym q
 
 pub earned-unique : (d b : List ℕ) (k : ℕ) (a : Asked) → One (Earned d b k a)
-earned-unique d b k (register l symbol) = one (one last)
-earned-unique d b k (start o symbol) = one (one (one (one last)))
-earned-unique d b k (take how r l n) = one (one (one (one last)))
-earned-unique d b k (close r l) = one (one (one last))
-earned-unique d b k (replace original new l n p) = one (one (one (one last)))
+earned-unique d b k (register l symbol) = one-of (one-of last)
+earned-unique d b k (start o symbol) = one-of (one-of (one-of (one-of last)))
+earned-unique d b k (take how r l n) = one-of (one-of (one-of (one-of last)))
+earned-unique d b k (close r l) = one-of (one-of (one-of last))
+earned-unique d b k (replace original new l n p) = one-of (one-of (one-of (one-of last)))
 earned-unique d b k no-more = last

@@ -1,30 +1,26 @@
 -- What is found in the tables, in 01's words, one type for each search with a case for each of its answers: `sight` for the order
--- with a reference, `standing` for a locate, `room` for a free slot. Assumes nothing.
+-- with a reference, `room` for a free slot. Assumes nothing.
 use mathlib.Core.Path.{_≡_, refl, sym, ap, _∙_}
-use mathlib.Core.Logic.{⊎-elim, inl, inr}
-use mathlib.Core.Bool.{Bool, true, false, cond, _&&_, false≢true}
+use mathlib.Core.Logic.{⊎-elim}
+use mathlib.Core.Bool.{Bool, true, false, false≢true}
 use mathlib.Core.List.{List}
 use Prim.Native.Nat.{ℕ, _*_, _≤_, _<_}
 use native.Mathlib.Omega.{arith}
-use borrow.Author.Tests.{leb-true, leb-false, ltb-true, ltb-false}
-use lib.Dec.{leb, ltb}
-use lib.ListN.{length, getD}
 use Rattle.laws.specs.Bools.{cases, true-not-false}
-use Rattle.laws.specs.Least.{least, least-none, lt-or-le}
+use Rattle.laws.specs.Least.{least-none, lt-or-le}
+use Rattle.laws.specs.Definitions.{least}
 use Rattle.kinds.specs.declared.Slot.{Slot}
 use Rattle.book.specs.declared.Found.{Found}
 use Rattle.book.specs.declared.Found.the-variants.{At, Nothing}
 use Rattle.book.specs.Book.{live, holds, isFree, foundBelow, find, lowestFree}
 use Rattle.book.specs.Finds.{holds-yes, holds-live, holds-same, find-at, found-slot, nowhere, below-yes, below-no, free-yes, free-slot, full}
-use Rattle.directory.specs.declared.Entry.{Entry}
 use Rattle.directory.specs.declared.Entry.the-variants as entry
-use Rattle.directory.specs.Directory.{entryAt}
 use Rattle.orders.specs.declared.Order.{Order}
 use Rattle.orders.specs.declared.Held.{Held}
 use Rattle.orders.specs.declared.Held.the-variants.{Sound, Unsound}
-use Rattle.decide.specs.Decide.{Seen, nothing, something}
-use Rattle.decide.specs.Stored.{heldAt, seenIn, isAt, slotOf}
-use Rattle.apply_theorems.specs.Statements.{Outside, Lowest, IsLive, Full, Broken, IsOrder}
+use Rattle.decide.specs.Decide.{Seen, unseen, something}
+use Rattle.slots.specs.Stored.{heldAt, isAt, seenIn, slotOf}
+use Rattle.apply_theorems.specs.Statements.{Lowest, IsLive, Full, Broken, IsOrder}
 
 abbrev isSound : Held → Bool
 isSound (Sound o) = true
@@ -69,8 +65,8 @@ found-lowest b k r s e =
     }
 
 -- where nothing is found, the reference is not live
-found-nothing : (b : List ℕ) (k r : ℕ) → find b k r ≡ Nothing → IsLive b k r → ⊥
-found-nothing b k r e w =
+unfound : (b : List ℕ) (k r : ℕ) → find b k r ≡ Nothing → IsLive b k r → ⊥
+unfound b k r e w =
     true-not-false (holds b k r (w .slot)) (holds-yes b k r (w .slot) (w .alive) (w .holding)) (nowhere b k r e (w .slot) (w .inside))
 
 -- what a search for a reference gives
@@ -82,26 +78,26 @@ pub spot : (b : List ℕ) (k r : ℕ) → Spot b k r (find b k r)
 spot b k r = go (find b k r) refl
   where
     go : (f : Found) → find b k r ≡ f → Spot b k r f
-    go Nothing e = nowhere-live (found-nothing b k r e)
+    go Nothing e = nowhere-live (unfound b k r e)
     go (At s) e = lowest-at s (found-lowest b k r s e)
 
 -- ---- what is seen of the order with a reference
 
 -- the reference is not live; or s is its slot, and it is broken, or holds an order
 pub data Sight (b : List ℕ) (k r : ℕ) : ℕ → Seen → Type 0 where
-  gone : (IsLive b k r → ⊥) → Sight b k r 0 nothing
-  broken : (s : ℕ) → Lowest b k r s → heldAt b k s ≡ Unsound → Sight b k r s (something Unsound)
-  whole : (s : ℕ) (o : Order) → Lowest b k r s → heldAt b k s ≡ Sound o → Sight b k r s (something (Sound o))
+  found-nothing : (IsLive b k r → ⊥) → Sight b k r 0 unseen
+  found-unsound : (s : ℕ) → Lowest b k r s → heldAt b k s ≡ Unsound → Sight b k r s (something Unsound)
+  found-order : (s : ℕ) (o : Order) → Lowest b k r s → heldAt b k s ≡ Sound o → Sight b k r s (something (Sound o))
 
 pub sight : (b : List ℕ) (k r : ℕ) → Sight b k r (slotOf (find b k r)) (seenIn b k (find b k r))
 sight b k r = go (spot b k r)
   where
     holding : (s : ℕ) → Lowest b k r s → (h : Held) → heldAt b k s ≡ h → Sight b k r s (something h)
-    holding s w Unsound e = broken s w e
-    holding s w (Sound o) e = whole s o w e
+    holding s w Unsound e = found-unsound s w e
+    holding s w (Sound o) e = found-order s o w e
 
     go : {f : Found} → Spot b k r f → Sight b k r (slotOf f) (seenIn b k f)
-    go (nowhere-live n) = gone n
+    go (nowhere-live n) = found-nothing n
     go (lowest-at s w) = holding (s .0) w (heldAt b k (s .0)) refl
 
 -- what the slot concerned holds is one thing: no other order, and it is not broken where it holds an order
@@ -115,33 +111,16 @@ order-unique i j = let q = held-once (i .lowest) (i .sound) (j .lowest) (j .soun
 pub order-sound : {b : List ℕ} {k r : ℕ} {o : Order} → IsOrder b k r o → Broken b k r → ⊥
 order-sound i x = false≢true (ap isSound (held-once (x .lowest) (x .unsound) (i .lowest) (i .sound)))
 
--- ---- what stands in the directory
-
--- a locate is outside, or its number stands there
-pub data Standing (d : List ℕ) (l : ℕ) : Entry → Type 0 where
-  out : Outside d l → Standing d l entry.Outside
-  within : (Outside d l → ⊥) → Standing d l (entry.Symbol (getD d l 0))
-
-pub standing : (d : List ℕ) (l : ℕ) → Standing d l (entryAt d l)
-unfolding entryAt
-standing d l = go (leb 1 l) refl (ltb l (length d)) refl
-  where
-    go : (x : Bool) → leb 1 l ≡ x → (y : Bool) → ltb l (length d) ≡ y
-        → Standing d l (cond (x && y) (entry.Symbol (getD d l 0)) entry.Outside)
-    go false p y q = out (inl (omega (arith, leb-false 1 l p)))
-    go true p false q = out (inr (omega (arith, ltb-false l (length d) q)))
-    go true p true q = within (⊎-elim (λ e. omega (arith, leb-true 1 l p)) (λ e. omega (arith, ltb-true l (length d) q)))
-
 -- ---- the lowest free slot
 
 -- none is found exactly where no slot is free
 pub data Room (b : List ℕ) (k : ℕ) : Found → Type 0 where
-  none : Full b k → Room b k Nothing
-  some : (s : Slot) → s .0 < 64 * k → live b (s .0) ≡ 0 → Room b k (At s)
+  no-room : Full b k → Room b k Nothing
+  some-room : (s : Slot) → s .0 < 64 * k → live b (s .0) ≡ 0 → Room b k (At s)
 
 pub room : (b : List ℕ) (k : ℕ) → Room b k (lowestFree b k)
 room b k = go (lowestFree b k) refl
   where
     go : (f : Found) → lowestFree b k ≡ f → Room b k f
-    go Nothing e = none (λ i l q. true-not-false (isFree b i) (free-yes b i q) (full b k e i l))
-    go (At s) e = let g = free-slot b k s e in some s (g .0) (g .1)
+    go Nothing e = no-room (λ i l q. true-not-false (isFree b i) (free-yes b i q) (full b k e i l))
+    go (At s) e = let g = free-slot b k s e in some-room s (g .0) (g .1)

@@ -3,43 +3,44 @@
 use mathlib.Core.Path.{_≡_}
 use mathlib.Core.Logic.{_↔_, _⊎_, _≢_}
 use mathlib.Core.List.{List}
-use Prim.Native.Nat.{ℕ, _*_, _≤_, _<_}
-use lib.ListN.{length, getD}
+use Prim.Native.Nat.{ℕ, _*_, _<_}
+use lib.ListN.{length}
 use Rattle.messages.specs.declared.Message.{Message}
 use Rattle.messages.specs.declared.Answer.the-variants.{Good}
 use Rattle.book.specs.declared.Found.the-variants.{At}
-use Rattle.book.specs.Book.{live, numberAt, lowestFree, clearSlot}
+use Rattle.directory.specs.declared.Entry.the-variants as entry
+use Rattle.directory.specs.Directory.{DirectoryLength, entryAt, unusedOf}
+use Rattle.book.specs.Book.{BookLength, live, numberAt, lowestFree, clearSlot}
 use Rattle.orders.specs.declared.Order.{Order}
 use Rattle.orders.specs.declared.Held.the-variants.{Sound, Unsound}
 use Rattle.orders.specs.Order.{remaining}
-use Rattle.decide.specs.Stored.{heldAt}
 use Rattle.reader.specs.Read.{answer}
-use Rattle.numbers.specs.Shown.{number}
+use Rattle.slots.specs.Stored.{heldAt}
+use Rattle.numbers.specs.Shown.{answerNumber}
 use Rattle.steps.specs.Asked.{Asked, register, start, take, close, replace, nothing, asked}
-use Rattle.apply.specs.Apply.{applied}
-use Rattle.outcomes.specs.Outcomes.{numberOf}
+use Rattle.apply.specs.Apply.{applied, numberOf}
 
 -- ---- what the checks ask of the tables
 
--- SHAPE: a directory of 2 to 8,192 numbers, a book of 257 k, k from 1 to 64
+-- SHAPE: a directory and a book of good lengths, the book with k map numbers
 pub record Shaped (d b : List ℕ) (k : ℕ) : Type 0 where
-  pub least : 2 ≤ length d
-  pub most : length d ≤ 8192
-  pub some : 1 ≤ k
-  pub few : k ≤ 64
-  pub size : length b ≡ 257 * k
+  pub directory : DirectoryLength (length d)
+  pub book : BookLength (length b) k
 
 -- locate 0, or beyond the directory
 abbrev pub Outside : List ℕ → ℕ → Type 0
-Outside d l = (l ≡ 0) ⊎ (length d ≤ l)
+Outside d l = entryAt d l ≡ entry.Outside
 
 -- that, or unregistered
 abbrev pub Unlisted : List ℕ → ℕ → Type 0
-Unlisted d l = Outside d l ⊎ (getD d l 0 ≡ 0)
+Unlisted d l = Outside d l ⊎ (entryAt d l ≡ entry.Symbol 0)
 
 -- another symbol is registered
-abbrev pub Another : List ℕ → ℕ → ℕ → Type 0
-Another d l symbol = (getD d l 0 ≢ 0) × (getD d l 0 ≢ symbol)
+pub record Another (d : List ℕ) (l symbol : ℕ) : Type 0 where
+  pub other : ℕ
+  pub stands : entryAt d l ≡ entry.Symbol other
+  pub some : other ≢ 0
+  pub differs : other ≢ symbol
 
 -- slot s is the lowest live one that holds the reference r
 pub record Lowest (b : List ℕ) (k r s : ℕ) : Type 0 where
@@ -117,11 +118,11 @@ pub record Judged (d b s : List ℕ) (k n : ℕ) : Type 0 where
 abbrev pub Given : List ℕ → List ℕ → List ℕ → ℕ → Type 0
 Given d b s n =
     ((((k : ℕ) → Shaped d b k → ⊥)) × (n ≡ 14))
-    ⊎ ((k : ℕ) × Shaped d b k × (((number (answer s) ≡ n) × (n ≢ 0)) ⊎ Judged d b s k n))
+    ⊎ ((k : ℕ) × Shaped d b k × (((answerNumber (answer s) ≡ n) × (n ≢ 0)) ⊎ Judged d b s k n))
 
 -- each number is given exactly when 01 says so, whatever the tables and the bytes
-abbrev pub Exactly : List ℕ → List ℕ → List ℕ → Type 0
-Exactly d b s = (n : ℕ) → numberOf (applied d b s .outcome) ≡ n ↔ Given d b s n
+abbrev pub ApplyExactly : List ℕ → List ℕ → List ℕ → Type 0
+ApplyExactly d b s = (n : ℕ) → numberOf (applied d b s .outcome) ≡ n ↔ Given d b s n
 
 -- ---- what is touched
 
@@ -154,18 +155,19 @@ Names (close named l) r = r ≡ named
 Names (replace original new l n p) r = (r ≡ original) ⊎ (r ≡ new)
 Names nothing r = ⊥
 
--- the directory's number i is the one that the message is about
-abbrev pub Entry : Asked → ℕ → Type 0
-Entry (register l symbol) i = i ≡ l
-Entry (start o symbol) i = ⊥
-Entry (take how r l n) i = ⊥
-Entry (close r l) i = ⊥
-Entry (replace original new l n p) i = ⊥
-Entry nothing i = ⊥
+-- the entry of locate m is the one that the message is about
+abbrev pub OwnEntry : Asked → ℕ → Type 0
+OwnEntry (register l symbol) m = m ≡ l
+OwnEntry (start o symbol) m = ⊥
+OwnEntry (take how r l n) m = ⊥
+OwnEntry (close r l) m = ⊥
+OwnEntry (replace original new l n p) m = ⊥
+OwnEntry nothing m = ⊥
 
 -- what a message that asks for a leaves of tables d and b, of which the book has k map numbers
 pub record Only (d b : List ℕ) (k : ℕ) (a : Asked) (d′ b′ : List ℕ) : Type 0 where
   pub directory-length : length d′ ≡ length d
   pub book-length : length b′ ≡ length b
-  pub entries : (i : ℕ) → (Entry a i → ⊥) → getD d′ i 0 ≡ getD d i 0
+  pub unused : unusedOf d′ ≡ unusedOf d
+  pub entries : (m : ℕ) → (OwnEntry a m → ⊥) → entryAt d′ m ≡ entryAt d m
   pub slots : (t : ℕ) → t < 64 * k → (Own b k a t → ⊥) → SameSlot b b′ k t

@@ -7,13 +7,14 @@ use mathlib.Core.List.{List}
 use Prim.Native.Nat.{ℕ, _*_, _<_}
 use native.Mathlib.Omega.{arith}
 use lib.Dec.{eqb, leb}
-use lib.ListN.{length, length-set}
-use lib.Seq.{getD-set-other}
+use lib.ListN.{length}
+use Rattle.refusals.specs.Refusals.{BOOK, NO-ORDER}
 use Rattle.messages.specs.declared.Message.{Message}
-use Rattle.messages.specs.declared.Refusal.{Refusal}
+use Rattle.refusals.specs.declared.Refusal.{Refusal}
 use Rattle.messages.specs.declared.Answer.{Answer}
 use Rattle.messages.specs.declared.Answer.the-variants as read
 use Rattle.kinds.specs.declared.Slot.{Slot}
+use Rattle.directory.specs.DirectoryLaws.{registered-length, registered-other, registered-unused, entry-means}
 use Rattle.book.specs.declared.Found.{Found}
 use Rattle.book.specs.declared.Found.the-variants.{At, Nothing}
 use Rattle.book.specs.Book.{live, numberAt, find, lowestFree, clearSlot, wordsOf}
@@ -21,18 +22,19 @@ use Rattle.book.specs.Finds.{free-slot}
 use Rattle.book.specs.Slots.{Changed, put-changed, clear-changed}
 use Rattle.directory.specs.declared.Entry.{Entry}
 use Rattle.directory.specs.declared.Entry.the-variants.{Outside, Symbol}
-use Rattle.directory.specs.Directory.{registered, entryAt, isSymbol}
+use Rattle.directory.specs.Directory.{entryAt, isSymbol}
 use Rattle.orders.specs.declared.Order.{Order}
 use Rattle.orders.specs.declared.Held.the-variants.{Sound, Unsound}
 use Rattle.orders.specs.Order.{remaining, second, third, fourth}
+use Rattle.slots.specs.Stored.{entered, isAt, kept, placed, putOrder, slotOf, stored}
+use Rattle.enroll.specs.Enrolled.{enrolled}
 use Rattle.fresh.specs.Fresh.{goodShapes}
 use Rattle.reader.specs.Read.{answer}
 use Rattle.decide.specs.Decide.{Verdict, refuse, enter, alter, leave, renew, enroll, pass, gate, stepOf}
-use Rattle.decide.specs.Decide.{Seen, nothing as unseen, something, isRegistered, registering, taking, closing, replacing, renewed}
-use Rattle.decide.specs.Stored.{isAt, slotOf, putOrder, entered, placed, kept, stored, enrolled}
+use Rattle.decide.specs.Decide.{Seen, unseen, something, isRegistered, registering, taking, closing, replacing, renewed}
 use Rattle.take.specs.Taken.{takenBy}
 use Rattle.steps.specs.Asked.{Asked, register, start, take, close, replace, nothing, asked}
-use Rattle.steps.specs.Steps.{judged, slotNamed}
+use Rattle.steps.specs.Steps.{verdictOn, slotSought}
 use Rattle.apply.specs.declared.Outcome.{Outcome}
 use Rattle.apply.specs.declared.Outcome.the-variants.{Refused, Accepted, Moved, Replaced}
 use Rattle.apply.specs.Apply.{After, concluded, applied}
@@ -40,7 +42,7 @@ use Rattle.apply.specs.ApplyLaws.{bad-shapes, unread, judgement}
 use Rattle.apply_theorems.specs.Statements.{Shaped, Lowest, Unchanged, SameSlot, Own, Only, Names}
 use Rattle.apply_theorems.specs.Means.{shaped-words, shaped-good, good-shaped}
 use Rattle.apply_theorems.specs.Sights.{Sight, sight}
-use Rattle.apply_theorems.specs.Sights.Sight.{gone, broken, whole}
+use Rattle.apply_theorems.specs.Sights.Sight.{found-nothing, found-unsound, found-order}
 
 -- ---- a refused call
 
@@ -76,8 +78,8 @@ refused-unchanged d b s r p = go (goodShapes d b) refl
     read-one e (read.Good m) f =
         let k = wordsOf (length b) in
         let q = judgement d b s e f in
-        let i : Idle d b k (slotNamed b k (asked m)) (judged d b k (asked m)) =
-        refused-idle m (judged d b k (asked m)) (ap (λ (x : After). isRefused (x .outcome)) (sym q) ∙ ap isRefused p) in
+        let i : Idle d b k (slotSought b k (asked m)) (verdictOn d b k (asked m)) =
+        refused-idle m (verdictOn d b k (asked m)) (ap (λ (x : After). isRefused (x .outcome)) (sym q) ∙ ap isRefused p) in
         same q (i .directory) (i .book)
 
     go : (t : Bool) → goodShapes d b ≡ t → Unchanged d b s
@@ -146,7 +148,8 @@ record Fine (d b : List ℕ) (k : ℕ) (a : Asked) (s : ℕ) (v : Verdict) : Typ
 
 module _ {d b : List ℕ} {k : ℕ} {a : Asked} where
   booked : {c : List ℕ} → Besides k (Own b k a) b c → Only d b k a d c
-  booked x = record { directory-length = refl; book-length = x .size; entries = λ i n. refl; slots = x .slots }
+  booked x =
+      record { directory-length = refl; book-length = x .size; unused = refl; entries = λ m n. refl; slots = x .slots }
 
   idle : {s n : ℕ} → Fine d b k a s (refuse n)
   idle = record { only = booked (unmoved b) }
@@ -156,33 +159,33 @@ module _ {d b : List ℕ} {k : ℕ} {a : Asked} where
   through false c f = idle
 
   -- of what is seen under a reference only a sound order comes to anything
-  named : {r s : ℕ} {z : Seen} (f : Seen → Verdict) → f unseen ≡ refuse 10 → f (something Unsound) ≡ refuse 13
+  named : {r s : ℕ} {z : Seen} (f : Seen → Verdict) → f unseen ≡ refuse NO-ORDER → f (something Unsound) ≡ refuse BOOK
       → Sight b k r s z → ((o : Order) → Lowest b k r s → Fine d b k a s (f (something (Sound o)))) → Fine d b k a s (f z)
-  named f p q (gone n) next = subst (Fine d b k a 0) (sym p) idle
-  named f p q (broken s w e) next = subst (Fine d b k a s) (sym q) idle
-  named f p q (whole s o w e) next = next o w
+  named f p q (found-nothing n) next = subst (Fine d b k a 0) (sym p) idle
+  named f p q (found-unsound s w e) next = subst (Fine d b k a s) (sym q) idle
+  named f p q (found-order s o w e) next = next o w
 
 -- R enters a symbol at its locate, or nothing
-registers : (d b : List ℕ) (k l symbol : ℕ) (e : Entry) → Fine d b k (register l symbol) 0 (registering e l symbol)
-unfolding registered
-registers d b k l symbol Outside = idle
-registers d b k l symbol (Symbol n) = go (eqb n 0)
+registers : (d b : List ℕ) (k l symbol : ℕ) (e : Entry) → entryAt d l ≡ e → Fine d b k (register l symbol) 0 (registering e l symbol)
+registers d b k l symbol Outside p = idle
+registers d b k l symbol (Symbol n) p = go (eqb n 0)
   where
     go : (t : Bool) → Fine d b k (register l symbol) 0 (cond t (enroll l symbol) (gate (eqb n symbol) 8 pass))
     go true =
         record {
           only = record {
-            directory-length = length-set d l symbol;
+            directory-length = registered-length d l symbol;
             book-length = refl;
-            entries = λ i n. getD-set-other d l i symbol 0 n;
+            unused = registered-unused d l symbol (entry-means d l n .0 p .from);
+            entries = λ m n. registered-other d l symbol m n;
             slots = unmoved b .slots;
           };
         }
     go false = through (eqb n symbol) 8 (record { only = booked (unmoved b) })
 
--- what is asked, judged, leaves all else
-fine : (d b : List ℕ) (k : ℕ) (a : Asked) → length b ≡ 257 * k → Fine d b k a (slotNamed b k a) (judged d b k a)
-fine d b k (register l symbol) z = registers d b k l symbol (entryAt d l)
+-- what is asked, verdictOn, leaves all else
+fine : (d b : List ℕ) (k : ℕ) (a : Asked) → length b ≡ 257 * k → Fine d b k a (slotSought b k a) (verdictOn d b k a)
+fine d b k (register l symbol) z = registers d b k l symbol (entryAt d l) refl
 fine d b k (start o symbol) z =
     let e = entryAt d (o .locate .0) in
     through (isRegistered e) 7
@@ -214,7 +217,7 @@ pub only-own : (d b s : List ℕ) (k : ℕ) (m : Message) → Shaped d b k → a
     → Only d b k (asked m) (applied d b s .directory) (applied d b s .book)
 only-own d b s k m z e =
     let j = wordsOf (length b) in
-    let f = fine d b j (asked m) (good-shaped d b (shaped-good z) .size) in
+    let f = fine d b j (asked m) (good-shaped d b (shaped-good z) .book .size) in
     let at-words = subst (λ (x : After). Only d b j (asked m) (x .directory) (x .book)) (sym (judgement d b s (shaped-good z) e)) (f .only) in
     subst (λ (i : ℕ). Only d b i (asked m) (applied d b s .directory) (applied d b s .book)) (shaped-words z) at-words
 
@@ -230,7 +233,7 @@ unnamed z (close r l) i e n w = n (w .holding)
 unnamed z (replace original new l c p) i e n (inl w) = n (inl (w .holding))
 unnamed {b = b} {k} {t} z (replace original new l c p) i e n (inr w) =
     let o = w .1 in
-    let g = clear-changed b k (w .0) (z .size) (o .inside) in
+    let g = clear-changed b k (w .0) (z .book .size) (o .inside) in
     let differs : t ≢ w .0 = λ q. n (inl (rw q (o .holding))) in
     let free = free-slot (clearSlot b k (w .0)) k (record { 0 = t }) (w .2) .1 in
     omega (arith, e, free, g .bit-off t i differs)

@@ -9,31 +9,35 @@ use native.Mathlib.Omega.{arith}
 use borrow.Author.Tests.{ne-eqb, ltb-true}
 use lib.Dec.{eqb, ltb}
 use Rattle.laws.specs.Lists.{nth}
+use Rattle.refusals.specs.Refusals.{refusalOf}
 use Rattle.kinds.specs.declared.Side.{Side}
 use Rattle.kinds.specs.declared.Side.the-variants.{Buy, Sell}
+use Rattle.kinds.specs.Sides.{sideByte, sideOf}
+use Rattle.kinds.specs.SideLaws.{side-back}
 use Rattle.messages.specs.declared.Message.{Message}
-use Rattle.messages.specs.Numbers.{sideByte, letterOf, valuesOf}
-use Rattle.messages.specs.Typed.{sideOf, message, message-back}
+use Rattle.messages.specs.Numbers.{letterOf, valuesOf}
+use Rattle.messages.specs.Typed.{message}
+use Rattle.messages.specs.TypedLaws.{message-back}
 use Rattle.decide.specs.declared.Figures.{Figures}
 use Rattle.numbers.specs.Shown.{padded}
 use Rattle.apply.specs.declared.Outcome.{Outcome}
 use Rattle.apply.specs.declared.Outcome.the-variants.{Refused, Accepted, Moved, Replaced}
-use Rattle.apply.specs.Apply.{After, applied}
-use Rattle.outcomes.specs.Outcomes.{numberOf, rowOf, orderRow}
+use Rattle.apply.specs.Apply.{After, applied, numberOf}
+use Rattle.outcomes.specs.Outcomes.{rowOf, orderRow}
 
 -- ---- the contract
 
 -- two ends of a call agree in all three parts
-pub record SameEnd (r r′ : Outcome) (d d′ b b′ : List ℕ) : Type 0 where
+pub record SameOutcome (r r′ : Outcome) (d d′ b b′ : List ℕ) : Type 0 where
   pub outcome : r ≡ r′
   pub directory : d ≡ d′
   pub book : b ≡ b′
 
-pub unique : (d b s : List ℕ) (r r″ : Outcome) (d′ d″ b′ b″ : List ℕ)
+pub outcome-unique : (d b s : List ℕ) (r r″ : Outcome) (d′ d″ b′ b″ : List ℕ)
     → record { outcome = r; directory = d′; book = b′ } ≡ applied d b s
     → record { outcome = r″; directory = d″; book = b″ } ≡ applied d b s
-    → SameEnd r r″ d′ d″ b′ b″
-unique d b s r r″ d′ d″ b′ b″ p q =
+    → SameOutcome r r″ d′ d″ b′ b″
+outcome-unique d b s r r″ d′ d″ b′ b″ p q =
     let e = p ∙ sym q in
     record { outcome = ap (λ (x : After). x .outcome) e; directory = ap (λ (x : After). x .directory) e; book = ap (λ (x : After). x .book) e }
 
@@ -68,10 +72,6 @@ pub side-some : (x : Side) → eqb (sideByte x) 0 ≡ false
 side-some Buy = refl
 side-some Sell = refl
 
-pub side-back : (x : Side) → sideOf (sideByte x) ≡ x
-side-back Buy = refl
-side-back Sell = refl
-
 abbrev tail : List ℕ → List ℕ
 tail [] = []
 tail (x ∷ v) = v
@@ -91,7 +91,7 @@ figuresAt w i =
 abbrev outcomeOf : ℕ → List ℕ → List ℕ → Outcome
 outcomeOf n v w =
     let m = message (nth v 0) (tail v) in
-    cond (eqb (nth v 0) 0) (Refused (record { number = n }))
+    cond (eqb (nth v 0) 0) (Refused (refusalOf n))
     (cond (eqb (nth w 1) 0) (Accepted m)
     (cond (eqb (nth w 6) 0) (Moved m (figuresAt w 0)) (Replaced m (figuresAt w 0) (figuresAt w 5))))
 
@@ -103,5 +103,5 @@ outcome-back (Replaced m f g) =
     rw (ne-eqb _ _ (letter-some m), side-some (f .side), side-some (g .side), shown-back m, side-back (f .side), side-back (g .side))
 
 -- two outcomes with the same numbers are one
-pub numbers-unique : (o o′ : Outcome) → numberOf o ≡ numberOf o′ → rowOf o ≡ rowOf o′ → orderRow o ≡ orderRow o′ → o ≡ o′
-numbers-unique o o′ n v w = sym (outcome-back o) ∙ rw (n, v, w) (outcome-back o′)
+pub outcome-numbers-unique : (o o′ : Outcome) → numberOf o ≡ numberOf o′ → rowOf o ≡ rowOf o′ → orderRow o ≡ orderRow o′ → o ≡ o′
+outcome-numbers-unique o o′ n v w = sym (outcome-back o) ∙ rw (n, v, w) (outcome-back o′)

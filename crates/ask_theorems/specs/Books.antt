@@ -1,37 +1,18 @@
 -- What is a book: `wordsOf` its length is its map numbers, and 0 where no k makes it one. So an answer that gives 14 where that is
 -- 0, and else goes on, gives exactly the numbers that `inBook` says (`exactly-in`). Assumes nothing.
 use mathlib.Core.Path.{_≡_, refl, sym, subst, _∙_}
-use mathlib.Core.Logic.{_↔_, inl, inr, _≢_}
+use mathlib.Core.Logic.{_↔_, inl, inr}
 use mathlib.Core.Bool.{Bool, true, false, cond}
-use mathlib.Core.List.{List, [], _∷_}
+use mathlib.Core.List.{List}
 use Prim.Native.Nat.{ℕ}
 use native.Mathlib.Omega.{arith}
 use borrow.Author.Tests.{eqb-true, eqb-false}
 use lib.Dec.{eqb}
 use lib.ListN.{length}
 use Rattle.book.specs.Book.{wordsOf}
-use Rattle.book.specs.Shape.{words-good}
-use Rattle.apply_theorems.specs.Statements.{Shaped}
-use Rattle.apply_theorems.specs.Means.{shaped-words}
-use Rattle.apply_theorems.specs.Earns.{One, one}
-use Rattle.ask_theorems.specs.Statements.{Booked, inBook}
-
--- ---- the map numbers of a book
-
--- beside a directory of two numbers
-beside : {b : List ℕ} {k : ℕ} → Booked b k → Shaped (0 ∷ 0 ∷ []) b k
-beside z = record { least = omega arith; most = omega arith; some = z .some; few = z .few; size = z .size }
-
-pub booked-words : {b : List ℕ} {k : ℕ} → Booked b k → wordsOf (length b) ≡ k
-booked-words z = shaped-words (beside z)
-
-pub booked-some : {b : List ℕ} {k : ℕ} → Booked b k → wordsOf (length b) ≢ 0
-booked-some z e = omega (arith, booked-words z, z .some)
-
-words-booked : (b : List ℕ) → wordsOf (length b) ≢ 0 → Booked b (wordsOf (length b))
-words-booked b d =
-    let g = words-good (length b) (wordsOf (length b)) refl (omega arith) in
-    record { some = omega arith; few = g .1; size = g .0 }
+use Rattle.book.specs.Shape.{length-words, words-length}
+use Rattle.apply_theorems.specs.Earns.{One, one-of}
+use Rattle.ask_theorems.specs.Statements.{inBook}
 
 -- ---- the number of an answer
 
@@ -42,15 +23,15 @@ in-book : {A : Type 0} (number : A → ℕ) (b : List ℕ) (checks : ℕ → ℕ
 in-book number b checks refusal answer p c = go (eqb (wordsOf (length b)) 0) refl
   where
     go : (t : Bool) → eqb (wordsOf (length b)) 0 ≡ t → inBook b checks (number (cond t refusal answer))
-    go true e = inl ((λ k z. booked-some z (eqb-true _ _ e)), p)
+    go true e = inl ((λ k z. omega (arith, length-words z, eqb-true (wordsOf (length b)) 0 e, z .some)), p)
     go false e =
-        let z = words-booked b (eqb-false _ _ e) in
+        let z = words-length (length b) (eqb-false _ _ e) in
         inr ((λ u. u (wordsOf (length b)) z), (wordsOf (length b), z, c))
 
 -- and it is the only one
 in-book-one : (b : List ℕ) (checks : ℕ → ℕ → Type 0) → ((k : ℕ) → One (checks k)) → One (inBook b checks)
-in-book-one b checks o = one λ m n x y.
-    let e = sym (booked-words (x .1)) ∙ booked-words (y .1) in
+in-book-one b checks o = one-of λ m n x y.
+    let e = sym (length-words (x .1)) ∙ length-words (y .1) in
     o (y .0) m n (rw e at (x .2)) (y .2)
 
 -- so it is given exactly where the checks say so

@@ -9,14 +9,15 @@ use native.Mathlib.Omega.{arith}
 use borrow.Author.Tests.{ne-eqb}
 use lib.Dec.{eqb}
 use lib.ListN.{length}
-use Rattle.messages.specs.Typed.{sideOf}
-use Rattle.wellformed.specs.WellFormed.{goodSide}
-use Rattle.book.specs.Book.{wordsOf, find}
+use Rattle.refusals.specs.Refusals.{SHAPE, refusalOf}
+use Rattle.kinds.specs.Sides.{sideOf, goodSide}
+use Rattle.book.specs.Book.{wordsOf, find, BookLength}
+use Rattle.book.specs.Shape.{length-words}
 use Rattle.orders.specs.declared.Order.{Order}
 use Rattle.orders.specs.declared.Held.{Held}
 use Rattle.orders.specs.declared.Held.the-variants.{Sound, Unsound}
 use Rattle.decide.specs.Decide.{Seen, refuse}
-use Rattle.decide.specs.Stored.{seenIn}
+use Rattle.slots.specs.Stored.{seenIn}
 use Rattle.accounts.specs.declared.Accounted.the-variants as account
 use Rattle.accounts.specs.Accounts.{accountOf, accounted, orderAsked}
 use Rattle.census.specs.declared.Counted.the-variants as count
@@ -25,15 +26,15 @@ use Rattle.levels.specs.declared.Quote.{Quote}
 use Rattle.levels.specs.declared.Quote.the-variants.{Stands}
 use Rattle.levels.specs.Totals.{total}
 use Rattle.levels.specs.TotalLaws.{total-none, some-total}
-use Rattle.levels.specs.Levels.{unsoundness, levelAt, stepsTo, standing, refused, checked, levelOf, bestOf, nextOf}
+use Rattle.levels.specs.Levels.{unsoundness, levelAt, ticksTo, standing, noQuote, checked, levelOf, bestOf, nextOf}
 use Rattle.replies.specs.Replies.{accountNumber, quoteNumber, countNumber}
 use Rattle.apply_theorems.specs.Statements.{IsLive, Broken, IsOrder, first, done}
 use Rattle.apply_theorems.specs.Sights.{lowest-live, Sight, sight, order-unique, order-sound}
-use Rattle.apply_theorems.specs.Sights.Sight.{gone, broken, whole}
-use Rattle.apply_theorems.specs.Earns.{Test, alike, differ, named, one, last}
+use Rattle.apply_theorems.specs.Sights.Sight.{found-nothing, found-unsound, found-order}
+use Rattle.apply_theorems.specs.Earns.{Test, alike, differ, named-comes, one-of, last}
 use Rattle.apply_theorems.specs.Earns.Test.{passes, fails}
-use Rattle.ask_theorems.specs.Statements.{Booked, Foul, OrderExactly, QuoteExactly, CountExactly}
-use Rattle.ask_theorems.specs.Books.{booked-words, booked-some, exactly-in}
+use Rattle.ask_theorems.specs.Statements.{Foul, OrderExactly, QuoteExactly, CountExactly}
+use Rattle.ask_theorems.specs.Books.{exactly-in}
 use Rattle.ask_theorems.specs.Cases.{standing-has}
 
 -- ---- the order question: 14, 10, 13
@@ -45,26 +46,26 @@ order-exactly b r =
     let k = wordsOf (length b) in
     exactly-in accountNumber b
     (λ k. first (IsLive b k r → ⊥) 10 (first (Broken b k r) 13 done))
-    (account.Refused (record { number = 14 })) (accounted (seenIn b k (find b k r))) refl
-    (λ k. one (one last))
-    (named {rest = done} (λ z. refuse (accountNumber (accounted z))) refl refl (sight b k r) (λ o i. record { number = refl }) .number)
+    (account.Refused (refusalOf SHAPE)) (accounted (seenIn b k (find b k r))) refl
+    (λ k. one-of (one-of last))
+    (named-comes {rest = done} (λ z. refuse (accountNumber (accounted z))) refl refl (sight b k r) (λ o i. record { number = refl }) .number)
 
 -- the answer for a reference whose slot is sound
-pub order-means : (b : List ℕ) (k r : ℕ) (o : Order) → Booked b k → IsOrder b k r o → orderAsked b r ≡ account.Is (accountOf o)
+pub order-means : (b : List ℕ) (k r : ℕ) (o : Order) → BookLength (length b) k → IsOrder b k r o → orderAsked b r ≡ account.Is (accountOf o)
 unfolding orderAsked
-order-means b k r o z i = rw (ne-eqb _ _ (booked-some z), booked-words z) (go (sight b k r))
+order-means b k r o z i = rw (length-words z) (rw (ne-eqb k 0 (λ e. omega (arith, z .some))) (go (sight b k r)))
   where
     go : {s : ℕ} {x : Seen} → Sight b k r s x → accounted x ≡ account.Is (accountOf o)
-    go (gone n) = absurd (n (lowest-live (i .lowest)))
-    go (broken s w e) = absurd (order-sound i (record { slot = s; lowest = w; unsound = e }))
-    go (whole s o′ w e) =
+    go (found-nothing n) = absurd (n (lowest-live (i .lowest)))
+    go (found-unsound s w e) = absurd (order-sound i (record { slot = s; lowest = w; unsound = e }))
+    go (found-order s o′ w e) =
         ap (λ (y : Order). account.Is (accountOf y)) (order-unique (record { slot = s; lowest = w; sound = e }) i)
 
 -- ---- the questions about levels: 14, 4, 13
 
 -- a check's number where its test fails, else the number of what comes next
 checking : {P : Type 0} {t : Bool} (c : ℕ) (rest : ℕ → Type 0) (q : Quote) → Test P t → rest (quoteNumber q)
-    → first P c rest (quoteNumber (cond t q (refused c)))
+    → first P c rest (quoteNumber (cond t q (noQuote c)))
 checking c rest q (passes n) r = inr (n, r)
 checking c rest q (fails p) r = inl (p, refl)
 
@@ -99,8 +100,8 @@ checked-exactly b byte q e =
     let k = wordsOf (length b) in
     exactly-in quoteNumber b
     (λ k. first ((byte ≢ 66) × (byte ≢ 83)) 4 (first (Foul b k) 13 done))
-    (refused 14) _ refl
-    (λ k. one (one last))
+    (noQuote SHAPE) _ refl
+    (λ k. one-of (one-of last))
     (checking 4 (first (Foul b k) 13 done) _ (sided byte) (checking 13 done q (foul b k) e))
 
 pub level-exactly : (b : List ℕ) (l byte p : ℕ) → QuoteExactly b byte (levelOf b l byte p)
@@ -120,12 +121,12 @@ best-exactly b l byte = from-exactly b l byte 0
 
 pub next-exactly : (b : List ℕ) (l byte p : ℕ) → QuoteExactly b byte (nextOf b l byte p)
 unfolding nextOf
-next-exactly b l byte p = from-exactly b l byte (stepsTo (sideOf byte) p + 1)
+next-exactly b l byte p = from-exactly b l byte (ticksTo (sideOf byte) p + 1)
 
 -- ---- the live count: 14
 
 pub count-exactly : (b : List ℕ) → CountExactly b
 unfolding countAsked
 count-exactly b =
-    exactly-in countNumber b (λ k. done) (count.Refused (record { number = 14 })) (count.Live (liveCount b (wordsOf (length b)))) refl
+    exactly-in countNumber b (λ k. done) (count.Refused (refusalOf SHAPE)) (count.Live (liveCount b (wordsOf (length b)))) refl
     (λ k. last) refl

@@ -7,16 +7,16 @@ use Prim.Native.Nat.{ℕ, _+_, _≤_, _<_}
 use native.Mathlib.Omega.{arith}
 use lib.ListN.{length}
 use Rattle.kinds.specs.declared.Side.{Side}
-use Rattle.messages.specs.Typed.{sideOf}
-use Rattle.book.specs.Book.{wordsOf}
+use Rattle.kinds.specs.Sides.{sideOf}
+use Rattle.book.specs.Book.{wordsOf, BookLength}
+use Rattle.book.specs.Shape.{length-words}
 use Rattle.levels.specs.declared.Level.{Level}
 use Rattle.levels.specs.declared.Quote.{Quote}
 use Rattle.levels.specs.declared.Quote.the-variants.{Refused, Nothing, Stands}
-use Rattle.levels.specs.Levels.{levelAt, allPrices, priceAt, stepsTo, firstStep, standing, checked, levelOf, bestOf, nextOf}
-use Rattle.levels.specs.Meaning.{steps-price, price-steps, steps-lt, Better, better-fewer, fewer-better}
+use Rattle.levels.specs.Levels.{levelAt, allPrices, priceAt, ticksTo, firstTick, standing, checked, levelOf, bestOf, nextOf}
+use Rattle.levels.specs.Meaning.{ticks-price, price-ticks, ticks-lt, Better, better-fewer, fewer-better}
 use Rattle.levels.specs.Meaning.{some-stands, first-none, stands-first, none-better}
-use Rattle.ask_theorems.specs.Statements.{Booked, LevelOf, LevelMeans, IsLevel, NoneWhere, BestMeans, NextMeans}
-use Rattle.ask_theorems.specs.Books.{booked-words}
+use Rattle.ask_theorems.specs.Statements.{LevelOf, LevelMeans, IsLevel, NoneWhere, BestMeans, NextMeans}
 use Rattle.ask_theorems.specs.Cases.{checked-has, standing-has}
 
 -- ---- an answer that is no refusal
@@ -27,10 +27,10 @@ refuses Nothing = false
 refuses (Stands l) = false
 
 -- is what the question asks for, in a book of k map numbers
-unchecked : {b : List ℕ} {k : ℕ} (byte : ℕ) (q : ℕ → Quote) (x : Quote)
-    → Booked b k → refuses x ≡ false → checked b byte (q (wordsOf (length b))) ≡ x → q k ≡ x
-unchecked {b} byte q x z f e =
-    rw (booked-words z) at
+unchecked : (b : List ℕ) {k : ℕ} (byte : ℕ) (q : ℕ → Quote) (x : Quote)
+    → BookLength (length b) k → refuses x ≡ false → checked b byte (q (wordsOf (length b))) ≡ x → q k ≡ x
+unchecked b byte q x z f e =
+    rw (length-words z) at
     (checked-has (λ y. y ≡ x → q (wordsOf (length b)) ≡ x) b byte (q (wordsOf (length b)))
     (λ n d e. absurd (true≢false (ap refuses e ∙ f)))
     (λ e. e)
@@ -38,15 +38,15 @@ unchecked {b} byte q x z f e =
 
 -- ---- the level of a price
 
-pub level-means : (b : List ℕ) (k l byte p : ℕ) → Booked b k → LevelMeans b k l byte p
+pub level-means : (b : List ℕ) (k l byte p : ℕ) → BookLength (length b) k → LevelMeans b k l byte p
 unfolding levelOf levelAt
 level-means b k l byte p z =
     record {
       stands = λ x e.
-          let q = unchecked byte asks (Stands x) z refl e in
+          let q = unchecked b byte asks (Stands x) z refl e in
           let is : levelAt b k l (sideOf byte) p ≡ x = cc in
           subst (LevelOf b k l (sideOf byte) p) is (record { price = refl; shares = refl; orders = refl });
-      some = λ e. let q = unchecked byte asks Nothing z refl e in let n : _≡_ {A = ℕ} 0 1 = cc in omega arith;
+      some = λ e. let q = unchecked b byte asks Nothing z refl e in let n : _≡_ {A = ℕ} 0 1 = cc in omega arith;
     }
   where
     asks : ℕ → Quote
@@ -58,18 +58,18 @@ level-means b k l byte p z =
 abbrev StandsFrom : List ℕ → ℕ → ℕ → Side → ℕ → Level → Type 0
 StandsFrom b k l side from x =
     IsLevel b k l side x
-    × (from ≤ stepsTo side (x .price))
-    × NoneWhere b k l side (λ p. (from ≤ stepsTo side p) × Better side p (x .price))
+    × (from ≤ ticksTo side (x .price))
+    × NoneWhere b k l side (λ p. (from ≤ ticksTo side p) × Better side p (x .price))
 
 module _ (b : List ℕ) (k l : ℕ) (side : Side) (from : ℕ) where
-  first-stands : firstStep b k l side from allPrices < allPrices
-      → StandsFrom b k l side from (levelAt b k l side (priceAt side (firstStep b k l side from allPrices)))
+  first-stands : firstTick b k l side from allPrices < allPrices
+      → StandsFrom b k l side from (levelAt b k l side (priceAt side (firstTick b k l side from allPrices)))
   unfolding levelAt
   first-stands h =
-      let i = firstStep b k l side from allPrices in
+      let i = firstTick b k l side from allPrices in
       let f = stands-first b k l side from allPrices h in (
         record { shares = refl; orders = refl; some = some-stands b k l side i (f .some) },
-        rw (steps-price side i h) (f .late),
+        rw (ticks-price side i h) (f .late),
         λ p small x. none-better b k l side from allPrices (omega arith) h p small (x .0) (x .1),
       )
 
@@ -77,53 +77,53 @@ module _ (b : List ℕ) (k l : ℕ) (side : Side) (from : ℕ) where
   standing-stands x =
       standing-has (λ q. q ≡ Stands x → StandsFrom b k l side from x) b k l side from
       (λ h e.
-      let i = firstStep b k l side from allPrices in
+      let i = firstTick b k l side from allPrices in
       let q : levelAt b k l side (priceAt side i) ≡ x = cc in
       subst (StandsFrom b k l side from) q (first-stands h))
       (λ h e. let n : _≡_ {A = ℕ} 0 1 = cc in absurd (omega arith))
 
   -- none is given: none stands from the step on
-  standing-none : standing b k l side from ≡ Nothing → NoneWhere b k l side (λ p. from ≤ stepsTo side p)
+  standing-none : standing b k l side from ≡ Nothing → NoneWhere b k l side (λ p. from ≤ ticksTo side p)
   standing-none =
-      standing-has (λ q. q ≡ Nothing → NoneWhere b k l side (λ p. from ≤ stepsTo side p)) b k l side from
+      standing-has (λ q. q ≡ Nothing → NoneWhere b k l side (λ p. from ≤ ticksTo side p)) b k l side from
       (λ h e. let n : _≡_ {A = ℕ} 0 1 = cc in absurd (omega arith))
       (λ h e p small late.
-      rw (price-steps side p small) at
-      (first-none b k l side from allPrices (stepsTo side p) late (omega (arith, steps-lt side p small))))
+      rw (price-ticks side p small) at
+      (first-none b k l side from allPrices (ticksTo side p) late (omega (arith, ticks-lt side p small))))
 
 -- ---- the best and the next
 
-pub best-means : (b : List ℕ) (k l byte : ℕ) → Booked b k → BestMeans b k l byte
+pub best-means : (b : List ℕ) (k l byte : ℕ) → BookLength (length b) k → BestMeans b k l byte
 unfolding bestOf
 best-means b k l byte z =
     record {
       stands = λ x e.
-          let g = standing-stands b k l (sideOf byte) 0 x (unchecked byte asks (Stands x) z refl e) in
+          let g = standing-stands b k l (sideOf byte) 0 x (unchecked b byte asks (Stands x) z refl e) in
           (g .0, λ p small better. g .2 p small (omega arith, better));
-      none = λ e p small u. standing-none b k l (sideOf byte) 0 (unchecked byte asks Nothing z refl e) p small (omega arith);
+      none = λ e p small u. standing-none b k l (sideOf byte) 0 (unchecked b byte asks Nothing z refl e) p small (omega arith);
     }
   where
     asks : ℕ → Quote
     asks k = standing b k l (sideOf byte) 0
 
 -- a worse price is at a later step
-pub next-means : (b : List ℕ) (k l byte p : ℕ) → Booked b k → p < allPrices → NextMeans b k l byte p
+pub next-means : (b : List ℕ) (k l byte p : ℕ) → BookLength (length b) k → p < allPrices → NextMeans b k l byte p
 unfolding nextOf
 next-means b k l byte p z m =
     record {
       stands = λ x e.
-          let g = standing-stands b k l side from x (unchecked byte asks (Stands x) z refl e) in
+          let g = standing-stands b k l side from x (unchecked b byte asks (Stands x) z refl e) in
           (g .0, fewer-better side p (x .price) (omega (arith, g .1)), λ q small y. g .2 q small (later q (y .0), y .1));
-      none = λ e q small better. standing-none b k l side from (unchecked byte asks Nothing z refl e) q small (later q better);
+      none = λ e q small better. standing-none b k l side from (unchecked b byte asks Nothing z refl e) q small (later q better);
     }
   where
     side : Side
     side = sideOf byte
 
     from : ℕ
-    from = stepsTo (sideOf byte) p + 1
+    from = ticksTo (sideOf byte) p + 1
 
-    later : (q : ℕ) → Better side p q → from ≤ stepsTo side q
+    later : (q : ℕ) → Better side p q → from ≤ ticksTo side q
     later q better = omega (arith, better-fewer (sideOf byte) p q m better)
 
     asks : ℕ → Quote

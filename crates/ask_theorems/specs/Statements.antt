@@ -3,13 +3,13 @@
 use mathlib.Core.Path.{_≡_}
 use mathlib.Core.Logic.{_↔_, _≢_}
 use mathlib.Core.List.{List}
-use Prim.Native.Nat.{ℕ, _*_, _≤_, _<_}
+use Prim.Native.Nat.{ℕ, _*_, _<_}
 use lib.ListN.{length}
 use Rattle.kinds.specs.declared.Side.{Side}
-use Rattle.messages.specs.Typed.{sideOf}
-use Rattle.book.specs.Book.{live}
+use Rattle.kinds.specs.Sides.{sideOf}
+use Rattle.book.specs.Book.{BookLength, live}
 use Rattle.orders.specs.declared.Held.the-variants.{Unsound}
-use Rattle.decide.specs.Stored.{heldAt}
+use Rattle.slots.specs.Stored.{heldAt}
 use Rattle.accounts.specs.Accounts.{orderAsked}
 use Rattle.census.specs.Census.{countAsked}
 use Rattle.levels.specs.declared.Level.{Level}
@@ -21,19 +21,13 @@ use Rattle.levels.specs.Meaning.{Better}
 use Rattle.replies.specs.Replies.{accountNumber, quoteNumber, countNumber}
 use Rattle.apply_theorems.specs.Statements.{IsLive, Broken, first, done}
 
--- a book of 257 k numbers, k from 1 to 64
-pub record Booked (b : List ℕ) (k : ℕ) : Type 0 where
-  pub some : 1 ≤ k
-  pub few : k ≤ 64
-  pub size : length b ≡ 257 * k
-
 -- no k makes it a book
 abbrev pub Unbooked : List ℕ → Type 0
-Unbooked b = (k : ℕ) → Booked b k → ⊥
+Unbooked b = (k : ℕ) → BookLength (length b) k → ⊥
 
 -- 14 for what is no book; else what the book's checks say
 abbrev pub inBook : List ℕ → (ℕ → ℕ → Type 0) → ℕ → Type 0
-inBook b checks = first (Unbooked b) 14 (λ n. (k : ℕ) × Booked b k × checks k n)
+inBook b checks = first (Unbooked b) 14 (λ n. (k : ℕ) × BookLength (length b) k × checks k n)
 
 -- a live slot of the whole book is unsound
 pub record Foul (b : List ℕ) (k : ℕ) : Type 0 where

@@ -10,7 +10,8 @@ use borrow.Author.Tests.{ne-eqb}
 use lib.Dec.{eqb}
 use lib.ListN.{length}
 use Rattle.laws.specs.Lists.{nth}
-use Rattle.messages.specs.Typed.{sideOf}
+use Rattle.refusals.specs.Refusals.{SHAPE, refusalOf}
+use Rattle.kinds.specs.Sides.{sideOf}
 use Rattle.book.specs.Book.{wordsOf}
 use Rattle.accounts.specs.declared.Accounted.{Accounted}
 use Rattle.accounts.specs.declared.Accounted.the-variants as account
@@ -20,15 +21,16 @@ use Rattle.census.specs.declared.Counted.the-variants as count
 use Rattle.census.specs.Census.{liveCount, countAsked}
 use Rattle.levels.specs.declared.Quote.{Quote}
 use Rattle.levels.specs.declared.Quote.the-variants as quote
-use Rattle.levels.specs.Levels.{levelAt, stepsTo, standing, refused, checked, levelOf, bestOf, nextOf}
+use Rattle.levels.specs.Levels.{levelAt, ticksTo, standing, noQuote, checked, levelOf, bestOf, nextOf}
 use Rattle.replies.specs.Replies.{accountNumber, accountRow, quoteNumber, levelRow, quoteRow, countNumber, countRow}
-use Rattle.apply_theorems.specs.Unique.{side-some, side-back}
+use Rattle.kinds.specs.SideLaws.{side-back}
+use Rattle.apply_theorems.specs.Unique.{side-some}
 use Rattle.ask_theorems.specs.Cases.{checked-has, standing-has}
 
 -- ---- the contracts
 
-pub order-unique : (b : List ℕ) (r : ℕ) (x y : Accounted) → x ≡ orderAsked b r → y ≡ orderAsked b r → x ≡ y
-order-unique b r x y p q = p ∙ sym q
+pub account-unique : (b : List ℕ) (r : ℕ) (x y : Accounted) → x ≡ orderAsked b r → y ≡ orderAsked b r → x ≡ y
+account-unique b r x y p q = p ∙ sym q
 
 pub level-unique : (b : List ℕ) (l byte p : ℕ) (x y : Quote) → x ≡ levelOf b l byte p → y ≡ levelOf b l byte p → x ≡ y
 level-unique b l byte p x y e f = e ∙ sym f
@@ -51,7 +53,7 @@ made of p q e f = sym p ∙ ap₂ of e f ∙ q
 
 abbrev accountedOf : ℕ → List ℕ → Accounted
 accountedOf n v =
-    cond (eqb (nth v 5) 0) (account.Refused (record { number = n }))
+    cond (eqb (nth v 5) 0) (account.Refused (refusalOf n))
     (account.Is (record {
       added = nth v 0;
       executed = nth v 1;
@@ -82,7 +84,7 @@ abbrev quoteOf : ℕ → List ℕ → Quote
 quoteOf n v =
     cond (eqb n 0)
     (cond (eqb (nth v 0) 0) quote.Nothing (quote.Stands (record { price = nth v 1; shares = nth v 2; orders = nth v 3 })))
-    (refused n)
+    (noQuote n)
 
 quote-back : (x : Quote) → Numbered x → quoteOf (quoteNumber x) (quoteRow x) ≡ x
 quote-back (quote.Refused r) n = rw (ne-eqb _ _ n)
@@ -104,7 +106,7 @@ best-numbered b l byte = numbered-from b l byte 0
 
 pub next-numbered : (b : List ℕ) (l byte p : ℕ) → Numbered (nextOf b l byte p)
 unfolding nextOf
-next-numbered b l byte p = numbered-from b l byte (stepsTo (sideOf byte) p + 1)
+next-numbered b l byte p = numbered-from b l byte (ticksTo (sideOf byte) p + 1)
 
 -- ---- the level of a price, which is no number of the answer
 
@@ -115,7 +117,7 @@ Priced p quote.Nothing = ⊥
 Priced p (quote.Stands l) = l .price ≡ p
 
 abbrev levelFor : ℕ → ℕ → List ℕ → Quote
-levelFor p n v = cond (eqb n 0) (quote.Stands (record { price = p; shares = nth v 0; orders = nth v 1 })) (refused n)
+levelFor p n v = cond (eqb n 0) (quote.Stands (record { price = p; shares = nth v 0; orders = nth v 1 })) (noQuote n)
 
 level-back : (p : ℕ) (x : Quote) → Priced p x → levelFor p (quoteNumber x) (levelRow x) ≡ x
 level-back p (quote.Refused r) n = rw (ne-eqb _ _ n)
@@ -137,7 +139,7 @@ NumberedCount (count.Refused r) = r .number ≢ 0
 NumberedCount (count.Live n) = Unit {0}
 
 abbrev countedOf : ℕ → List ℕ → Counted
-countedOf n v = cond (eqb n 0) (count.Live (nth v 0)) (count.Refused (record { number = n }))
+countedOf n v = cond (eqb n 0) (count.Live (nth v 0)) (count.Refused (refusalOf n))
 
 count-back : (x : Counted) → NumberedCount x → countedOf (countNumber x) (countRow x) ≡ x
 count-back (count.Refused r) n = rw (ne-eqb _ _ n)
@@ -150,6 +152,6 @@ pub count-numbered : (b : List ℕ) → NumberedCount (countAsked b)
 unfolding countAsked
 count-numbered b = go (eqb (wordsOf (length b)) 0)
   where
-    go : (t : Bool) → NumberedCount (cond t (count.Refused (record { number = 14 })) (count.Live (liveCount b (wordsOf (length b)))))
+    go : (t : Bool) → NumberedCount (cond t (count.Refused (refusalOf SHAPE)) (count.Live (liveCount b (wordsOf (length b)))))
     go true = λ e. omega arith
     go false = tt

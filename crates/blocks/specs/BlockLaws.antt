@@ -13,24 +13,24 @@ use lib.Seq.{getD-drop, drop-drop}
 use Rattle.laws.specs.Bools.{cases, and-both, and-right}
 use Rattle.laws.specs.Field.{field}
 use Rattle.blocks.specs.declared.Block.the-variants.{Whole, Part}
-use Rattle.blocks.specs.Blocks.{promised, whole, body, behind, blockAt}
+use Rattle.blocks.specs.Blocks.{promised, wholeBlock, body, behind, blockAt}
 
 -- ---- the block that begins a stream
 
-pub is-whole : (s : List ℕ) → 2 + promised s ≤ length s → whole s ≡ true
-unfolding whole
+pub is-whole : (s : List ℕ) → 2 + promised s ≤ length s → wholeBlock s ≡ true
+unfolding wholeBlock
 is-whole s l =
     and-both (leb 2 (length s)) (leb (2 + promised s) (length s)) (le-leb 2 (length s) (omega arith)) (le-leb (2 + promised s) (length s) l)
 
 -- its length and what that promises are there
-pub whole-fits : (s : List ℕ) → whole s ≡ true → 2 + promised s ≤ length s
-unfolding whole
+pub whole-fits : (s : List ℕ) → wholeBlock s ≡ true → 2 + promised s ≤ length s
+unfolding wholeBlock
 whole-fits s e = leb-true (2 + promised s) (length s) (and-right (leb 2 (length s)) (leb (2 + promised s) (length s)) e)
 
-pub not-whole : (s : List ℕ) → length s < 2 + promised s → whole s ≡ false
-not-whole s l = ⊎-elim (λ e. let f = whole-fits s e in absurd (omega arith)) (λ e. e) (cases (whole s))
+pub not-whole : (s : List ℕ) → length s < 2 + promised s → wholeBlock s ≡ false
+not-whole s l = ⊎-elim (λ e. let f = whole-fits s e in absurd (omega arith)) (λ e. e) (cases (wholeBlock s))
 
-pub length-behind : (s : List ℕ) → whole s ≡ true → length (behind s) + 2 + promised s ≡ length s
+pub length-behind : (s : List ℕ) → wholeBlock s ≡ true → length (behind s) + 2 + promised s ≡ length s
 unfolding behind
 length-behind s e = let f = whole-fits s e in simp length-drop (omega arith)
 
@@ -45,24 +45,24 @@ field-drop s at i (suc w) = rw (field-drop s at i w, getD-drop, add-assoc)
 pub promised-at : (s : List ℕ) (at : ℕ) → promised (drop at s) ≡ field s at 2
 promised-at s at = field-drop s at 0 2 ∙ ap (λ (n : ℕ). field s n 2) (add-zero at)
 
-pub at-whole : (s : List ℕ) (at : ℕ) → whole (drop at s) ≡ true → blockAt s at ≡ Whole (at + 2) (at + 2 + promised (drop at s))
+pub at-whole : (s : List ℕ) (at : ℕ) → wholeBlock (drop at s) ≡ true → blockAt s at ≡ Whole (at + 2) (at + 2 + promised (drop at s))
 unfolding blockAt
 at-whole s at e = rw e
 
-pub at-part : (s : List ℕ) (at : ℕ) → whole (drop at s) ≡ false → blockAt s at ≡ Part
+pub at-part : (s : List ℕ) (at : ℕ) → wholeBlock (drop at s) ≡ false → blockAt s at ≡ Part
 unfolding blockAt
 at-part s at e = rw e
 
 -- where a whole block stands, its message, and what comes behind it
-pub record Found (s : List ℕ) (at from end : ℕ) : Type 0 where
-  pub whole-there : whole (drop at s) ≡ true
+pub record FoundBlock (s : List ℕ) (at from end : ℕ) : Type 0 where
+  pub whole-there : wholeBlock (drop at s) ≡ true
   pub begins : from ≡ at + 2
   pub runs : from ≤ end
   pub ends : end ≤ length s
   pub message : take (end - from) (drop from s) ≡ body (drop at s)
   pub rest : drop end s ≡ behind (drop at s)
 
-stands : (s : List ℕ) (at from end : ℕ) → whole (drop at s) ≡ true → from ≡ at + 2 → end ≡ at + 2 + promised (drop at s) → Found s at from end
+stands : (s : List ℕ) (at from end : ℕ) → wholeBlock (drop at s) ≡ true → from ≡ at + 2 → end ≡ at + 2 + promised (drop at s) → FoundBlock s at from end
 unfolding body behind
 stands s at from end w f e =
     let l = whole-fits (drop at s) w in
@@ -77,13 +77,13 @@ stands s at from end w f e =
       rest = rw (e, drop-drop, add-assoc);
     }
 
-pub found : (s : List ℕ) (at from end : ℕ) → blockAt s at ≡ Whole from end → Found s at from end
+pub found : (s : List ℕ) (at from end : ℕ) → blockAt s at ≡ Whole from end → FoundBlock s at from end
 found s at from end e =
     ⊎-elim
     (λ w. let b = at-whole s at w in stands s at from end w (cc) (cc))
     (λ w. let b = at-part s at w in let z : _≡_ {A = ℕ} 0 1 = cc in absurd (omega arith))
-    (cases (whole (drop at s)))
+    (cases (wholeBlock (drop at s)))
 
-pub missing : (s : List ℕ) (at : ℕ) → blockAt s at ≡ Part → whole (drop at s) ≡ false
+pub missing : (s : List ℕ) (at : ℕ) → blockAt s at ≡ Part → wholeBlock (drop at s) ≡ false
 missing s at e =
-    ⊎-elim (λ w. let b = at-whole s at w in let z : _≡_ {A = ℕ} 0 1 = cc in absurd (omega arith)) (λ w. w) (cases (whole (drop at s)))
+    ⊎-elim (λ w. let b = at-whole s at w in let z : _≡_ {A = ℕ} 0 1 = cc in absurd (omega arith)) (λ w. w) (cases (wholeBlock (drop at s)))

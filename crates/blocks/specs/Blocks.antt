@@ -13,8 +13,8 @@ abbrev pub promised : List ℕ → ℕ
 promised s = field s 0 2
 
 -- s begins with a whole block: its length, and as many bytes as that promises
-unfoldable pub whole : List ℕ → Bool
-whole s = leb 2 (length s) && leb (2 + promised s) (length s)
+unfoldable pub wholeBlock : List ℕ → Bool
+wholeBlock s = leb 2 (length s) && leb (2 + promised s) (length s)
 
 -- the message in it, and what comes behind it
 unfoldable pub body : List ℕ → List ℕ
@@ -25,4 +25,4 @@ behind s = drop (2 + promised s) s
 
 -- the block that begins at `at`: where its message begins and ends
 unfoldable pub blockAt : List ℕ → ℕ → Block
-blockAt s at = cond (whole (drop at s)) (Whole (at + 2) (at + 2 + promised (drop at s))) Part
+blockAt s at = cond (wholeBlock (drop at s)) (Whole (at + 2) (at + 2 + promised (drop at s))) Part

@@ -1,13 +1,13 @@
 -- The book as numbers (01, 'The tables the desk lends'): k map numbers, then four numbers a slot, for 64 k slots. Slot s is live
 -- when bit s mod 64 of number s / 64 is 1. The order with a given reference is the lowest live slot holding it, whatever the
 -- book contains; a new order takes the lowest free slot. Assumes nothing.
-use Prim.Native.Nat.{ℕ, _+_, _*_, _/_, _%_}
+use Prim.Native.Nat.{ℕ, _+_, _*_, _/_, _%_, _≤_}
+use mathlib.Core.Path.{_≡_}
 use mathlib.Core.Bool.{Bool, cond, _&&_}
 use mathlib.Core.List.{List}
 use lib.Dec.{eqb, leb, ltb}
 use lib.ListN.{getD, set}
-use Rattle.laws.specs.Bit.{bit, setBit, clearBit}
-use Rattle.laws.specs.Least.{least}
+use Rattle.laws.specs.Definitions.{bit, setBit, clearBit, least}
 use Rattle.book.specs.declared.Found.{Found}
 use Rattle.book.specs.declared.Found.the-variants.{At, Nothing}
 
@@ -16,6 +16,12 @@ use Rattle.book.specs.declared.Found.the-variants.{At, Nothing}
 -- the most map numbers that a book may have
 unfoldable pub mostWords : ℕ
 mostWords = 64
+
+-- a book of n numbers has k map numbers
+pub record BookLength (n k : ℕ) : Type 0 where
+  pub some : 1 ≤ k
+  pub few : k ≤ mostWords
+  pub size : n ≡ 257 * k
 
 -- how many map numbers a book of n numbers has; 0 where n is no book's length
 unfoldable pub wordsOf : ℕ → ℕ

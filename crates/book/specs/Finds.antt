@@ -11,8 +11,10 @@ use borrow.Author.Tests.{lt-ltb, le-ltb, eq-eqb, ne-eqb, eqb-true}
 use lib.Dec.{eqb}
 use lib.ListN.{getD}
 use Rattle.laws.specs.Bools.{and-left, and-right, and-false}
-use Rattle.laws.specs.Least.{least, least-is, least-none, least-at, lt-or-le}
+use Rattle.laws.specs.Least.{least-is, least-none, least-at, lt-or-le}
+use Rattle.laws.specs.Definitions.{least}
 use Rattle.kinds.specs.declared.Slot.{Slot}
+use Rattle.book.specs.declared.Found.{Found}
 use Rattle.book.specs.declared.Found.the-variants.{At, Nothing}
 use Rattle.book.specs.Book.{live, numberAt, holds, isFree, foundBelow, find, lowestFree}
 
@@ -112,15 +114,6 @@ pub free-yes : (b : List ℕ) (s : ℕ) → live b s ≡ 0 → isFree b s ≡ tr
 unfolding isFree
 free-yes b s e = eq-eqb _ _ e
 
-pub free-no : (b : List ℕ) (s : ℕ) → (live b s ≡ 0 → ⊥) → isFree b s ≡ false
-unfolding isFree
-free-no b s e = ne-eqb _ _ e
-
-pub free-at : (b : List ℕ) (k s : ℕ) → s < 64 * k → ((i : ℕ) → i < s → isFree b i ≡ false) → isFree b s ≡ true
-    → At (record { 0 = s }) ≡ lowestFree b k
-unfolding lowestFree
-free-at b k s l none here = sym (found-at (isFree b) (64 * k) s l none here)
-
 pub free-none : (b : List ℕ) (k : ℕ) → ((i : ℕ) → i < 64 * k → isFree b i ≡ false) → Nothing ≡ lowestFree b k
 unfolding lowestFree
 free-none b k none = sym (found-none (isFree b) (64 * k) none)
@@ -136,3 +129,14 @@ free-slot b k s e =
 pub full : (b : List ℕ) (k : ℕ) → lowestFree b k ≡ Nothing → (i : ℕ) → i < 64 * k → isFree b i ≡ false
 unfolding lowestFree
 full b k e = none-passes (isFree b) (64 * k) e
+
+-- ---- a slot that was found, or none
+
+-- it lies in the book
+abbrev pub Within : ℕ → Found → Type 0
+Within k (At s) = s .0 < 64 * k
+Within k Nothing = Unit {0}
+
+pub find-within : (b : List ℕ) (k r : ℕ) (f : Found) → f ≡ find b k r → Within k f
+find-within b k r (At s) e = found-slot b k r s (sym e) .0
+find-within b k r Nothing e = tt

@@ -9,8 +9,9 @@ use native.Mathlib.Omega.{arith}
 use lib.Bits.{bitAnd}
 use lib.Count.{trailingZeros}
 use lib.Pow.{pow-pos}
-use Rattle.laws.specs.Bit.{bit, bit-of-zero, trailing-zero, trailing-one, trailing-lt, and-pred, clear-same, clear-other, pow-le}
-use Rattle.laws.specs.Least.{least, least-is, same-or}
+use Rattle.laws.specs.Bit.{bit-of-zero, trailing-zero, trailing-one, trailing-lt, and-pred, clear-same, clear-other, pow-le}
+use Rattle.laws.specs.Least.{least-is, same-or}
+use Rattle.laws.specs.Definitions.{bit, least}
 
 -- m is w with the one bits taken off that have been looked at, none of which passed the test p
 pub record Scan (p : ℕ → Bool) (w m : ℕ) : Type 0 where
@@ -19,8 +20,8 @@ pub record Scan (p : ℕ → Bool) (w m : ℕ) : Type 0 where
   pub past : (i : ℕ) → i < 64 → bit m i ≡ 0 → p i ≡ false
 
 -- nothing looked at yet: a bit that is 0 passes no test
-pub start : (p : ℕ → Bool) (w : ℕ) → w < 2 ^ 64 → ((i : ℕ) → i < 64 → bit w i ≡ 0 → p i ≡ false) → Scan p w w
-start p w l h = record { fits = l; sub = λ i e. e; past = h }
+pub scan-start : (p : ℕ → Bool) (w : ℕ) → w < 2 ^ 64 → ((i : ℕ) → i < 64 → bit w i ≡ 0 → p i ≡ false) → Scan p w w
+scan-start p w l h = record { fits = l; sub = λ i e. e; past = h }
 
 -- the next one bit
 pub next-lt : {p : ℕ → Bool} {w m : ℕ} → Scan p w m → (m ≡ 0 → ⊥) → trailingZeros 64 m < 64
@@ -62,6 +63,6 @@ hit {p} {w} {m} s n y =
     sym (least-is p 64 t (le-of-lt l) (λ i h. s .past i (omega arith) (trailing-zero 64 m i h)) (λ _. y))
 
 -- no one bit is left: none passes
-pub done : {p : ℕ → Bool} {w m : ℕ} → Scan p w m → m ≡ 0 → 64 ≡ least p 64
-done {p} {w} {m} s e =
+pub scan-done : {p : ℕ → Bool} {w m : ℕ} → Scan p w m → m ≡ 0 → 64 ≡ least p 64
+scan-done {p} {w} {m} s e =
     sym (least-is p 64 64 (le-refl 64) (λ i l. s .past i l (ap (λ (x : ℕ). bit x i) e ∙ bit-of-zero i)) (λ l. absurd (lt-irrefl 64 l)))

@@ -8,14 +8,15 @@ use native.Mathlib.Nat.{add-zero}
 use native.Mathlib.Omega.{arith}
 use lib.ListN.{length, getD, set, length-set}
 use lib.Seq.{getD-set-same, getD-set-other}
-use Rattle.laws.specs.Bit.{bit, setBit, clearBit, setBit-same, setBit-other, clearBit-same, clearBit-other}
+use Rattle.laws.specs.Bit.{setBit-same, setBit-other, clearBit-same, clearBit-other}
 use Rattle.laws.specs.Bools.{true-not-false}
-use Rattle.laws.specs.Least.{least-ext, same-or, lt-or-le}
+use Rattle.laws.specs.Least.{same-or, lt-or-le}
+use Rattle.laws.specs.Definitions.{bit, setBit, clearBit}
 use Rattle.kinds.specs.declared.Slot.{Slot}
 use Rattle.book.specs.declared.Found.{Found}
 use Rattle.book.specs.declared.Found.the-variants.{At, Nothing}
-use Rattle.book.specs.Book.{live, numberAt, holds, isFree, foundBelow, find, lowestFree, four, putSlot, clearSlot}
-use Rattle.book.specs.Finds.{holds-yes, find-at, nowhere, free-yes, full}
+use Rattle.book.specs.Book.{live, numberAt, isFree, lowestFree, four, putSlot, clearSlot}
+use Rattle.book.specs.Finds.{free-yes, full}
 use Rattle.book.specs.Shape.{Sized}
 
 -- ---- four numbers stored from place a on
@@ -129,33 +130,10 @@ pub clear-length : (b : List ℕ) (k s : ℕ) → length (clearSlot b k s) ≡ l
 unfolding clearSlot
 clear-length b k s = rw four-length (simp length-set)
 
-pub put-sized : (b : List ℕ) (k s n0 n1 n2 n3 : ℕ) → Sized b k → Sized (putSlot b k s n0 n1 n2 n3) k
-put-sized b k s n0 n1 n2 n3 z = record { size = put-length b k s n0 n1 n2 n3 ∙ z .size; most = z .most }
-
 pub clear-sized : (b : List ℕ) (k s : ℕ) → Sized b k → Sized (clearSlot b k s) k
 clear-sized b k s z = record { size = clear-length b k s ∙ z .size; most = z .most }
 
 -- ---- what a search then finds
-
-module _ {k s v n0 n1 n2 n3 : ℕ} {b c : List ℕ} (g : Changed k s v n0 n1 n2 n3 b c) where
-  pub holds-off : (r t : ℕ) → t < 64 * k → t ≢ s → holds c k r t ≡ holds b k r t
-  unfolding holds
-  holds-off r t l n = rw (g .bit-off t l n, g .num-off t 0 n (omega arith))
-
-  -- a free slot takes n0, which no live slot held: it is found there
-  pub find-put : v ≡ 1 → s < 64 * k → find b k n0 ≡ Nothing → find c k n0 ≡ At (record { 0 = s })
-  find-put ev l none =
-      sym
-      (find-at c k n0 s l (λ i h. holds-off n0 i (omega arith) (λ q. omega arith) ∙ nowhere b k n0 none i (omega arith))
-      (holds-yes c k n0 s (g .bit-at ∙ ev) (g .num-0)))
-
-  -- a reference that slot s holds as before is found where it was
-  pub find-off : (r : ℕ) → holds b k r s ≡ holds c k r s → find c k r ≡ find b k r
-  unfolding find
-  find-off r same =
-      ap (foundBelow (64 * k))
-      (least-ext (holds c k r) (holds b k r) (64 * k)
-      (λ t l. ⊎-elim (λ q. rw q (sym same)) (λ q. holds-off r t l q) (same-or t s)))
 
 -- a slot that is cleared is free, so one is found
 pub cleared-room : (b : List ℕ) (k s : ℕ) → Sized b k → s < 64 * k → (t : Slot) × (lowestFree (clearSlot b k s) k ≡ At t)

@@ -12,8 +12,8 @@ use borrow.Author.Count.{below-more, below-none}
 use borrow.Author.Tests.{eq-eqb, ne-eqb}
 use lib.Dec.{eqb}
 use lib.ListN.{getD}
-use Rattle.laws.specs.Bit.{bit}
-use Rattle.laws.specs.Least.{least, least-is, least-none, least-at, least-ext, lt-or-le}
+use Rattle.laws.specs.Least.{least-is, least-none, least-at, least-ext, lt-or-le}
+use Rattle.laws.specs.Definitions.{bit, least}
 use Rattle.book.specs.declared.Found.the-variants.{At}
 use Rattle.book.specs.Book.{live, holds, isFree, foundBelow, find, lowestFree}
 use Rattle.book.specs.Finds.{number-0, holds-yes, holds-dead, holds-other, found-at}
@@ -48,8 +48,8 @@ in-yes b k r j i l o e =
 pub first-at : (p : ℕ → Bool) (t : ℕ) → t < 64 → ((i : ℕ) → i < t → p i ≡ false) → p t ≡ true → t ≡ least p 64
 first-at p t l none here = sym (least-is p 64 t (le-of-lt l) none (λ _. here))
 
-pub first-none : (p : ℕ → Bool) → ((i : ℕ) → i < 64 → p i ≡ false) → 64 ≡ least p 64
-first-none p none = sym (least-is p 64 64 (le-refl 64) none (λ l. absurd (lt-irrefl 64 l)))
+pub word-none : (p : ℕ → Bool) → ((i : ℕ) → i < 64 → p i ≡ false) → 64 ≡ least p 64
+word-none p none = sym (least-is p 64 64 (le-refl 64) none (λ l. absurd (lt-irrefl 64 l)))
 
 -- ---- from map number to map number
 
@@ -118,8 +118,8 @@ pub record Halved (w i rest : ℕ) : Type 0 where
   pub rests : rest ≡ w / 2 ^ i
   pub ones : (t : ℕ) → t < i → isZero w t ≡ false
 
-pub whole : (w : ℕ) → Halved w 0 w
-whole w = record { below = omega arith; rests = sym (div-one w); ones = below-none (λ t. isZero w t ≡ false) }
+pub word-whole : (w : ℕ) → Halved w 0 w
+word-whole w = record { below = omega arith; rests = sym (div-one w); ones = below-none (λ t. isZero w t ≡ false) }
 
 halving : (w i : ℕ) → w / 2 ^ i / 2 ≡ w / 2 ^ (i + 1)
 halving w i = div-div-eq-div-mul w (2 ^ i) 2 ∙ ap (λ (x : ℕ). w / x) (sym (rw add-one (pow-suc 2 i)))
@@ -138,4 +138,4 @@ zero-at w i rest h l e =
     first-at (isZero w) i l (h .ones) (eq-eqb (w / 2 ^ i % 2) 0 (ap (λ (x : ℕ). x % 2) (sym (h .rests)) ∙ e))
 
 pub no-zero : (w i rest : ℕ) → Halved w i rest → 64 ≤ i → 64 ≡ least (isZero w) 64
-no-zero w i rest h l = first-none (isZero w) (λ t q. h .ones t (omega arith))
+no-zero w i rest h l = word-none (isZero w) (λ t q. h .ones t (omega arith))

@@ -1,10 +1,10 @@
 // The book's shape, its map and its slots: which slot is free, and what is stored. It knows nothing of messages, nor of what a
 // slot's four numbers mean.
 ghost use mathlib.Core.Path.{_≡_};
-ghost use Prim.Native.Nat.{_*_, _^_, _≤_, _<_};
-ghost use Rattle.laws.specs.Bit.{bit, clearBit, setBit};
-ghost use Rattle.laws.specs.Least.{least};
-ghost use Rattle.book.specs.Book.{clearSlot, lowestFree, numberAt, putSlot, wordsOf};
+ghost use Prim.Native.Nat.{_+_, _*_, _^_, _<_};
+ghost use lib.ListN.{length};
+ghost use Rattle.laws.specs.Definitions.{bit, clearBit, setBit, least};
+ghost use Rattle.book.specs.Book.{clearSlot, four, lowestFree, numberAt, putSlot, wordsOf};
 ghost use Rattle.book.specs.Shape.{Sized};
 ghost use Rattle.book.specs.Words.{isZero};
 use kinds::Slot;
@@ -14,15 +14,18 @@ pub enum Found {
     Nothing,
 }
 
+// The most map numbers that a book may have.
+const MOST_WORDS: usize = 64;
+
 // How many map numbers a book of n numbers has; 0 where n is no book's length.
 pub fn words_of(n: usize) -> usize
-    ensures { λ r. ⌜ (r ≡ wordsOf n) × (r ≤ 64) ⌝ }
+    ensures { λ r. ⌜ r ≡ wordsOf n ⌝ }
 {
     let k = n / 257;
     if n % 257 != 0 {
         return 0;
     }
-    if k > 64 {
+    if k > MOST_WORDS {
         return 0;
     }
     k
@@ -105,6 +108,17 @@ pub fn lowest_free(book: &[u64], k: usize) -> Found
 
 // ---- what is stored
 
+// Four numbers from place a on.
+fn put_four(book: &mut [u64], a: usize, n0: u64, n1: u64, n2: u64, n3: u64)
+    requires { ⌜ a + 3 < length (now book) ⌝ }
+    ensures { λ _. ⌜ now (book .exit) ≡ four (now (book .entry)) a n0 n1 n2 n3 ⌝ }
+{
+    book[a] = n0;
+    book[a + 1] = n1;
+    book[a + 2] = n2;
+    book[a + 3] = n3;
+}
+
 // A slot made live with these four numbers.
 pub fn put_slot(book: &mut [u64], k: usize, slot: Slot, n0: u64, n1: u64, n2: u64, n3: u64)
     requires { ⌜ Sized (now book) k × (slot .0 < 64 * k) ⌝ }
@@ -113,11 +127,7 @@ pub fn put_slot(book: &mut [u64], k: usize, slot: Slot, n0: u64, n1: u64, n2: u6
     let s = slot.0;
     let j = s / 64;
     book[j] = with_bit(book[j], s % 64);
-    let a = k + 4 * s;
-    book[a] = n0;
-    book[a + 1] = n1;
-    book[a + 2] = n2;
-    book[a + 3] = n3;
+    put_four(book, k + 4 * s, n0, n1, n2, n3);
 }
 
 // A slot made free, its four numbers zero, whatever it was.
@@ -128,9 +138,5 @@ pub fn clear_slot(book: &mut [u64], k: usize, slot: Slot)
     let s = slot.0;
     let j = s / 64;
     book[j] = without_bit(book[j], s % 64);
-    let a = k + 4 * s;
-    book[a] = 0;
-    book[a + 1] = 0;
-    book[a + 2] = 0;
-    book[a + 3] = 0;
+    put_four(book, k + 4 * s, 0, 0, 0, 0);
 }

@@ -1,11 +1,9 @@
 -- One more byte moved to the front: it is read behind those that were written, where the buffer is as it was. Assumes nothing.
-use mathlib.Core.Path.{_≡_, refl, sym, ap, _∙_}
-use mathlib.Core.Bool.{true, false, _&&_}
-use mathlib.Core.List.{List, [], _∷_, _++_}
+use mathlib.Core.Path.{_≡_, refl, ap}
+use mathlib.Core.List.{List, _++_}
 use native.Mathlib.Omega.{arith}
 use Prim.Native.Nat.{ℕ, suc, _+_, _-_, _≤_, _<_}
-use lib.Dec.{leb}
-use Rattle.carry.specs.Carry.{between, kept, keptLength}
+use Rattle.carry.specs.Carry.{between, carried, keptLength}
 use borrow.Author.Tests.{le-leb, lt-leb}
 use lib.ListN.{length, take, drop, set, getD, length-drop}
 use lib.Seq.{length-take-le, take-suc, drop-cons, append-snoc, set-at, getD-append-add, getD-drop}
@@ -42,17 +40,17 @@ one-more b from i h =
 
 -- what is answered and left
 abbrev pub Keeps : List ℕ → ℕ → ℕ → List ℕ → ℕ → Type 0
-Keeps b from to after r = (r ≡ keptLength b from to) × (after ≡ kept b from to)
+Keeps b from to after r = (r ≡ keptLength b from to) × (after ≡ carried b from to)
 
 pub keeps-there : (b : List ℕ) (from to : ℕ) (after : List ℕ) → from ≤ to → to ≤ length b
     → after ≡ between b from to ++ drop (to - from) b → Keeps b from to after (to - from)
-unfolding kept keptLength
+unfolding carried keptLength
 keeps-there b from to after l h e = (rw (le-leb from to l, le-leb to (length b) h) refl, rw (le-leb from to l, le-leb to (length b) h) e)
 
 pub keeps-crossed : (b : List ℕ) (from to : ℕ) → to < from → Keeps b from to b to
-unfolding kept keptLength
+unfolding carried keptLength
 keeps-crossed b from to h = (rw (lt-leb from to h) refl, rw (lt-leb from to h) refl)
 
 pub keeps-beyond : (b : List ℕ) (from to : ℕ) → from ≤ to → length b < to → Keeps b from to b to
-unfolding kept keptLength
+unfolding carried keptLength
 keeps-beyond b from to l h = (rw (le-leb from to l, lt-leb to (length b) h) refl, rw (le-leb from to l, lt-leb to (length b) h) refl)

@@ -10,8 +10,8 @@ abbrev pub between : List ℕ → ℕ → ℕ → List ℕ
 between buffer from to = take (to - from) (drop from buffer)
 
 -- behind them the buffer is as before; where there are no such bytes nothing changes
-unfoldable pub kept : List ℕ → ℕ → ℕ → List ℕ
-kept buffer from to =
+unfoldable pub carried : List ℕ → ℕ → ℕ → List ℕ
+carried buffer from to =
     cond (leb from to && leb to (length buffer)) (between buffer from to ++ drop (to - from) buffer) buffer
 
 unfoldable pub keptLength : List ℕ → ℕ → ℕ → ℕ

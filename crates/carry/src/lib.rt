@@ -4,7 +4,7 @@ ghost use mathlib.Core.Path.{_≡_};
 ghost use Prim.Native.Nat.{_+_, _-_, _≤_};
 ghost use lib.ListN.{length, take, drop};
 ghost use mathlib.Core.List.{_++_};
-ghost use Rattle.carry.specs.Carry.{between, kept, keptLength};
+ghost use Rattle.carry.specs.Carry.{between, carried, keptLength};
 
 // The first n bytes, or all where there are fewer.
 pub fn front(s: &[u8], n: usize) -> &[u8]
@@ -32,7 +32,7 @@ fn forward(buffer: &mut [u8], from: usize, to: usize)
 
 // Keeps the bytes from `from` on and before `to`, and answers how many they are; where there are none such it changes nothing.
 pub fn keep(buffer: &mut [u8], from: usize, to: usize) -> usize
-    ensures { λ r. ⌜ (r ≡ keptLength (now (buffer .entry)) from to) × (now (buffer .exit) ≡ kept (now (buffer .entry)) from to) ⌝ }
+    ensures { λ r. ⌜ (r ≡ keptLength (now (buffer .entry)) from to) × (now (buffer .exit) ≡ carried (now (buffer .entry)) from to) ⌝ }
 {
     if from > to {
         return to;

@@ -8,27 +8,26 @@ use borrow.Author.Tests.{eqb-true}
 use lib.Dec.{eqb}
 use lib.ListN.{replicate}
 use Rattle.laws.specs.Bools.{and-left, and-right}
-use Rattle.laws.specs.Bit.{bit, setBit, clearBit}
 use Rattle.laws.specs.Field.{field}
-use Rattle.laws.specs.Least.{least, pickN}
-use Rattle.laws.specs.Sum.{sumTo}
+use Rattle.laws.specs.Definitions.{bit, setBit, clearBit, least, pickN, sumTo}
 use Rattle.kinds.specs.Admission.{maximum}
+use Rattle.kinds.specs.Sides.{goodSide}
 use Rattle.text.specs.Text.{letter, letters, text}
 use Rattle.layout.specs.Layout.{lengthOf}
-use Rattle.wellformed.specs.WellFormed.{goodTime, goodShares, goodPrice, goodSide, goodPrintable, refusal}
+use Rattle.wellformed.specs.WellFormed.{goodTime, goodShares, goodPrice, goodPrintable, refusal}
 use Rattle.reader.specs.Read.{judgedAs, answer}
-use Rattle.numbers.specs.Shown.{number}
+use Rattle.slots.specs.Stored.{entered, heldAt, kept, putOrder}
+use Rattle.numbers.specs.Shown.{answerNumber}
 use Rattle.directory.specs.Directory.{mostNumbers, goodLength, entryAt, registered}
 use Rattle.book.specs.Book.{mostWords, wordsOf, live, numberAt, holds, isFree, foundBelow, find, lowestFree, four, putSlot, clearSlot}
 use Rattle.orders.specs.Order.{remaining, executedBy, cancelledBy, closedOf, second, third, fourth, sound, orderOf, held}
-use Rattle.decide.specs.Stored.{heldAt, putOrder, entered, kept}
 use Rattle.fresh.specs.Fresh.{goodShapes, madeNumber, madeOf}
-use Rattle.apply.specs.Apply.{After, applied}
+use Rattle.apply.specs.Apply.{After, applied, numberOf}
 use Rattle.accounts.specs.Accounts.{orderAsked}
 use Rattle.levels.specs.Levels.{levelAt, levelOf}
 use Rattle.levels.specs.Totals.{total, weighed}
 use Rattle.replies.specs.Replies.{accountNumber, accountRow, quoteNumber, levelRow}
-use Rattle.outcomes.specs.Outcomes.{numberOf, orderRow}
+use Rattle.outcomes.specs.Outcomes.{orderRow}
 use Rattle.cases.specs.Table.{Case, read, run, account, level, shape, table}
 
 -- the answer to the last of some messages applied in turn, and both tables then
@@ -53,7 +52,7 @@ left ms = lastly (replicate 2 0) (replicate 257 0) ms .book
 
 -- what a row claims
 abbrev pub Holds : Case → Type 0
-Holds (read s n) = number (answer s) ≡ n
+Holds (read s n) = answerNumber (answer s) ≡ n
 Holds (run ms n figures d b) = Left (lastly (replicate 2 0) (replicate 257 0) ms) n figures d b
 Holds (account ms r n values) = (accountNumber (orderAsked (left ms) r) ≡ n) × (accountRow (orderAsked (left ms) r) ≡ values)
 Holds (level ms l side p n values) = (quoteNumber (levelOf (left ms) l side p) ≡ n) × (levelRow (levelOf (left ms) l side p) ≡ values)
@@ -80,7 +79,7 @@ ran a n figures d b =
     eqb (numberOf (a .outcome)) n && (same (orderRow (a .outcome)) figures && (same (a .directory) d && same (a .book) b))
 
 abbrev passes : Case → Bool
-passes (read s n) = eqb (number (answer s)) n
+passes (read s n) = eqb (answerNumber (answer s)) n
 passes (run ms n figures d b) = ran (lastly (replicate 2 0) (replicate 257 0) ms) n figures d b
 passes (account ms r n values) = eqb (accountNumber (orderAsked (left ms) r)) n && same (accountRow (orderAsked (left ms) r)) values
 passes (level ms l side p n values) =
@@ -121,7 +120,7 @@ both x n xs ys e =
     (eqb-true x n (and-left (eqb x n) (same xs ys) e), same-true xs ys (and-right (eqb x n) (same xs ys) e))
 
 means : (c : Case) → passes c ≡ true → Holds c
-means (read s n) e = eqb-true (number (answer s)) n e
+means (read s n) e = eqb-true (answerNumber (answer s)) n e
 means (run ms n figures d b) e = ran-left (lastly (replicate 2 0) (replicate 257 0) ms) n figures d b e
 means (account ms r n values) e = both (accountNumber (orderAsked (left ms) r)) n (accountRow (orderAsked (left ms) r)) values e
 means (level ms l side p n values) e = both (quoteNumber (levelOf (left ms) l side p)) n (levelRow (levelOf (left ms) l side p)) values e

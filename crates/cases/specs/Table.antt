@@ -32,8 +32,8 @@ abbrev pub ZVZZT : ℕ
 ZVZZT = 0x5A565A5A54202020
 
 -- R: ZVZZT at locate 1, every code a space
-abbrev pub register : List ℕ
-register = header 82 0 ++ be 8 ZVZZT ++ replicate 20 32
+abbrev pub registerOf : List ℕ
+registerOf = header 82 0 ++ be 8 ZVZZT ++ replicate 20 32
 
 -- A: an order of ZVZZT
 abbrev pub add : ℕ → ℕ → ℕ → ℕ → List ℕ
@@ -52,19 +52,19 @@ abbrev pub deleteAt : ℕ → ℕ → List ℕ
 deleteAt time reference = header 68 time ++ be 8 reference
 
 -- U
-abbrev pub replace : ℕ → ℕ → ℕ → ℕ → List ℕ
-replace original new shares price = header 85 0 ++ be 8 original ++ be 8 new ++ be 4 shares ++ be 4 price
+abbrev pub replaceOf : ℕ → ℕ → ℕ → ℕ → List ℕ
+replaceOf original new shares price = header 85 0 ++ be 8 original ++ be 8 new ++ be 4 shares ++ be 4 price
 
 -- the order 5 of 01's whole case: a buy of 300 at 100000
 abbrev pub five : List ℕ
 five = add 5 66 300 100000
 
 -- R, then order 5, E 100 and X 50
-abbrev pub fourth : List (List ℕ)
-fourth = register ∷ five ∷ execute 5 100 ∷ cancel 5 50 ∷ []
+abbrev pub fourthOf : List (List ℕ)
+fourthOf = registerOf ∷ five ∷ execute 5 100 ∷ cancel 5 50 ∷ []
 
 abbrev pub twoSells : List (List ℕ)
-twoSells = register ∷ add 5 83 4294967295 100000 ∷ add 6 83 4294967295 100000 ∷ []
+twoSells = registerOf ∷ add 5 83 4294967295 100000 ∷ add 6 83 4294967295 100000 ∷ []
 
 -- buys of 300 at 100000 with the references n down to 1
 abbrev pub fill : ℕ → List (List ℕ)
@@ -86,12 +86,12 @@ abbrev pub holdingTwo : ℕ → ℕ → ℕ → ℕ → ℕ → ℕ → ℕ → 
 holdingTwo n0 n1 n2 n3 p0 p1 p2 p3 = 3 ∷ n0 ∷ n1 ∷ n2 ∷ n3 ∷ p0 ∷ p1 ∷ p2 ∷ p3 ∷ replicate 248 0
 
 -- all 64 live with the orders of `fill`, but new in the place of old
-abbrev pub rows : ℕ → ℕ → ℕ → List ℕ
-rows old new zero = []
-rows old new (suc n) = cond (eqb (suc n) old) new (suc n) ∷ 0x000186A00000012C ∷ 0 ∷ 0x0001424E53445100 ∷ rows old new n
+abbrev pub slotRows : ℕ → ℕ → ℕ → List ℕ
+slotRows old new zero = []
+slotRows old new (suc n) = cond (eqb (suc n) old) new (suc n) ∷ 0x000186A00000012C ∷ 0 ∷ 0x0001424E53445100 ∷ slotRows old new n
 
 abbrev pub filledBut : ℕ → ℕ → List ℕ
-filledBut old new = 0xFFFFFFFFFFFFFFFF ∷ rows old new 64
+filledBut old new = 0xFFFFFFFFFFFFFFFF ∷ slotRows old new 64
 
 abbrev pub filled : List ℕ
 filled = filledBut 0 0
@@ -117,30 +117,30 @@ table =
     ∷ read (add 5 66 300 2000000000) 0
     ∷ read (add 5 66 300 2000000001) 5
     -- 4: A of 300, E 100, X 50: 150 remain, and the numbers of the slot
-    ∷ run (register ∷ five ∷ []) 0 (bought 300 300) listed (holding 5 0x000186A00000012C 0 0x0001424E53445100)
-    ∷ run fourth 0 (bought 50 150) listed fourthBook
-    ∷ account fourth 5 0 (300 ∷ 100 ∷ 50 ∷ 150 ∷ 1 ∷ 66 ∷ 100000 ∷ 0x4E534451 ∷ [])
-    ∷ level fourth 1 66 100000 0 (150 ∷ 1 ∷ [])
+    ∷ run (registerOf ∷ five ∷ []) 0 (bought 300 300) listed (holding 5 0x000186A00000012C 0 0x0001424E53445100)
+    ∷ run fourthOf 0 (bought 50 150) listed fourthBook
+    ∷ account fourthOf 5 0 (300 ∷ 100 ∷ 50 ∷ 150 ∷ 1 ∷ 66 ∷ 100000 ∷ 0x4E534451 ∷ [])
+    ∷ level fourthOf 1 66 100000 0 (150 ∷ 1 ∷ [])
     -- 5: then E 151: 11; E 150 instead: gone
-    ∷ run (fourth ++ (execute 5 151 ∷ [])) 11 (replicate 10 0) listed fourthBook
-    ∷ run (fourth ++ (execute 5 150 ∷ [])) 0 (bought 150 0) listed empty
-    ∷ account (fourth ++ (execute 5 150 ∷ [])) 5 10 (replicate 8 0)
-    ∷ level (fourth ++ (execute 5 150 ∷ [])) 1 66 100000 0 (0 ∷ 0 ∷ [])
+    ∷ run (fourthOf ++ (execute 5 151 ∷ [])) 11 (replicate 10 0) listed fourthBook
+    ∷ run (fourthOf ++ (execute 5 150 ∷ [])) 0 (bought 150 0) listed empty
+    ∷ account (fourthOf ++ (execute 5 150 ∷ [])) 5 10 (replicate 8 0)
+    ∷ level (fourthOf ++ (execute 5 150 ∷ [])) 1 66 100000 0 (0 ∷ 0 ∷ [])
     -- 6: U with new equal to original: 9
-    ∷ run (fourth ++ (replace 5 5 10 100000 ∷ [])) 9 (replicate 10 0) listed fourthBook
+    ∷ run (fourthOf ++ (replaceOf 5 5 10 100000 ∷ [])) 9 (replicate 10 0) listed fourthBook
     -- 7: D, then A with the same reference: a new life
-    ∷ run (fourth ++ (deleteAt 0 5 ∷ [])) 0 (bought 150 0) listed empty
-    ∷ run (fourth ++ (deleteAt 0 5 ∷ five ∷ [])) 0 (bought 300 300) listed (holding 5 0x000186A00000012C 0 0x0001424E53445100)
+    ∷ run (fourthOf ++ (deleteAt 0 5 ∷ [])) 0 (bought 150 0) listed empty
+    ∷ run (fourthOf ++ (deleteAt 0 5 ∷ five ∷ [])) 0 (bought 300 300) listed (holding 5 0x000186A00000012C 0 0x0001424E53445100)
     -- 8: two sells of 4,294,967,295 at one price: total 8,589,934,590, count 2
     ∷ run twoSells 0
     (1 ∷ 83 ∷ 100000 ∷ 4294967295 ∷ 4294967295 ∷ replicate 5 0) listed
     (holdingTwo 5 0x000186A0FFFFFFFF 0 0x0001534E53445100 6 0x000186A0FFFFFFFF 0 0x0001534E53445100)
     ∷ level twoSells 1 83 100000 0 (8589934590 ∷ 2 ∷ [])
     -- 9: 64 live of 64: A gets 12, U is accepted; D, then A: accepted in the freed slot
-    ∷ run (register ∷ fill 64 ++ (add 65 66 300 100000 ∷ [])) 12 (replicate 10 0) listed filled
-    ∷ run (register ∷ fill 64 ++ (replace 30 65 300 100000 ∷ [])) 0
+    ∷ run (registerOf ∷ fill 64 ++ (add 65 66 300 100000 ∷ [])) 12 (replicate 10 0) listed filled
+    ∷ run (registerOf ∷ fill 64 ++ (replaceOf 30 65 300 100000 ∷ [])) 0
     (1 ∷ 66 ∷ 100000 ∷ 300 ∷ 0 ∷ 1 ∷ 66 ∷ 100000 ∷ 300 ∷ 300 ∷ []) listed (filledBut 30 65)
-    ∷ run (register ∷ fill 64 ++ (deleteAt 0 30 ∷ add 65 66 300 100000 ∷ [])) 0 (bought 300 300) listed (filledBut 30 65)
+    ∷ run (registerOf ∷ fill 64 ++ (deleteAt 0 30 ∷ add 65 66 300 100000 ∷ [])) 0 (bought 300 300) listed (filledBut 30 65)
     -- 10: book lengths 257 and 16,448 pass; 0, 256, 258 and 16,705: 14
     ∷ shape 2 257 0 1
     ∷ shape 2 16448 0 1

@@ -6,8 +6,10 @@ use native.Mathlib.Omega.{arith}
 use lib.Count.{ones}
 use borrow.Author.Tests.{eq-eqb, ne-eqb}
 use lib.ListN.{length, getD}
-use Rattle.laws.specs.Bit.{bit, bit-lt, ones-bits}
-use Rattle.laws.specs.Sum.{sumTo, sum-cut, sum-ext, sum-le}
+use Rattle.laws.specs.Bit.{bit-lt, ones-bits}
+use Rattle.laws.specs.Sum.{sum-cut, sum-ext, sum-le}
+use Rattle.laws.specs.Definitions.{bit, sumTo}
+use Rattle.refusals.specs.Refusals.{SHAPE, refusalOf}
 use Rattle.book.specs.Book.{live, wordsOf}
 use Rattle.book.specs.Words.{live-word}
 use Rattle.census.specs.declared.Counted.the-variants.{Refused, Live}
@@ -41,7 +43,7 @@ few b k j n h =
 -- ---- the question
 
 module _ (b : List ℕ) (k : ℕ) where
-  pub shapeless : k ≡ wordsOf (length b) → k ≡ 0 → Refused (record { number = 14 }) ≡ countAsked b
+  pub shapeless : k ≡ wordsOf (length b) → k ≡ 0 → Refused (refusalOf SHAPE) ≡ countAsked b
   unfolding countAsked
   shapeless w z = rw (eq-eqb (wordsOf (length b)) 0 (sym w ∙ z))
 

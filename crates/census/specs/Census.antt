@@ -4,7 +4,8 @@ use mathlib.Core.Bool.{cond}
 use mathlib.Core.List.{List}
 use lib.Dec.{eqb}
 use lib.ListN.{length}
-use Rattle.laws.specs.Sum.{sumTo}
+use Rattle.laws.specs.Definitions.{sumTo}
+use Rattle.refusals.specs.Refusals.{SHAPE, refusalOf}
 use Rattle.book.specs.Book.{live, wordsOf}
 use Rattle.census.specs.declared.Counted.{Counted}
 use Rattle.census.specs.declared.Counted.the-variants.{Refused, Live}
@@ -14,4 +15,4 @@ unfoldable pub liveCount : List ℕ → ℕ → ℕ
 liveCount b k = sumTo (live b) (64 * k)
 
 unfoldable pub countAsked : List ℕ → Counted
-countAsked b = cond (eqb (wordsOf (length b)) 0) (Refused (record { number = 14 })) (Live (liveCount b (wordsOf (length b))))
+countAsked b = cond (eqb (wordsOf (length b)) 0) (Refused (refusalOf SHAPE)) (Live (liveCount b (wordsOf (length b))))

@@ -2,7 +2,8 @@
 ghost use mathlib.Core.Path.{_≡_};
 ghost use Rattle.book.specs.Shape.{Sized};
 ghost use Rattle.census.specs.Census.{countAsked, liveCount};
-use messages::Refusal;
+use refusals::Refusal;
+use refusals::SHAPE;
 
 pub enum Counted {
     Refused(Refusal),
@@ -28,7 +29,7 @@ pub fn live_count(book: &[u64]) -> Counted
 {
     let k = book::words_of(book.len());
     if k == 0 {
-        return Counted::Refused(Refusal { number: 14 });
+        return Counted::Refused(Refusal::of(SHAPE));
     }
     Counted::Live(count_live(book, k))
 }

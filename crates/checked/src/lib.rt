@@ -1,12 +1,11 @@
-// Fields read and weighed: each call gives what stands at a place and the weight of what is wrong with it. It knows the kinds of
+// Fields read and checked: each call gives what stands at a place and the faults found in it. It knows the kinds of
 // fields, and no message.
 ghost use mathlib.Core.Path.{_≡_};
 ghost use Prim.Native.Nat.{_+_, _≤_, _*_};
 ghost use lib.ListN.{length};
 ghost use Rattle.laws.specs.Bools.{fault};
-ghost use Rattle.messages.specs.Numbers.{sideByte};
-ghost use Rattle.wellformed.specs.WellFormed.{goodPrintable, goodSide};
-ghost use Rattle.wellformed.specs.Weight.{sideHeld};
+ghost use Rattle.kinds.specs.Sides.{goodSide};
+ghost use Rattle.wellformed.specs.WellFormed.{goodPrintable};
 ghost use Rattle.checked.specs.Checked.{AreThreePrices, AreTwoPrices, IsHeaded, IsLot, IsPriced, IsPrintable, IsShares, IsSided, IsText4, IsText8};
 use kinds::Admission;
 use kinds::Locate;
@@ -16,56 +15,56 @@ use messages::Head;
 
 pub struct Headed {
     pub head: Head,
-    pub weight: u64,
+    pub faults: u64,
 }
 
 pub struct Shares {
     pub shares: u32,
-    pub weight: u64,
+    pub faults: u64,
 }
 
 pub struct Priced {
     pub price: Price,
-    pub weight: u64,
+    pub faults: u64,
 }
 
 pub struct TwoPrices {
     pub first: Price,
     pub second: Price,
-    pub weight: u64,
+    pub faults: u64,
 }
 
 pub struct ThreePrices {
     pub first: Price,
     pub second: Price,
     pub third: Price,
-    pub weight: u64,
+    pub faults: u64,
 }
 
 pub struct Sided {
     pub side: Side,
-    pub weight: u64,
+    pub faults: u64,
 }
 
 pub struct Lot {
     pub side: Side,
     pub shares: u32,
-    pub weight: u64,
+    pub faults: u64,
 }
 
 pub struct Printable {
     pub printable: u8,
-    pub weight: u64,
+    pub faults: u64,
 }
 
 pub struct Text8 {
     pub text: u64,
-    pub weight: u64,
+    pub faults: u64,
 }
 
 pub struct Text4 {
     pub text: u32,
-    pub weight: u64,
+    pub faults: u64,
 }
 
 // The fields that every message begins with.
@@ -82,12 +81,12 @@ pub fn head_at(s: &[u8]) -> Headed
     if time < 86400000000000 {
         Headed {
             head: head,
-            weight: 0,
+            faults: 0,
         }
     } else {
         Headed {
             head: head,
-            weight: 512,
+            faults: 512,
         }
     }
 }
@@ -101,12 +100,12 @@ pub fn shares_at(s: &[u8], at: usize) -> Shares
     if n == 0 {
         Shares {
             shares: n,
-            weight: 1,
+            faults: 1,
         }
     } else {
         Shares {
             shares: n,
-            weight: 0,
+            faults: 0,
         }
     }
 }
@@ -120,26 +119,20 @@ pub fn price_at(s: &[u8], at: usize) -> Priced
     let Admission::Admitted(p) = a else {
         return Priced {
             price: Price(0),
-            weight: 2,
+            faults: 2,
         };
     };
     Priced {
         price: p,
-        weight: 0,
+        faults: 0,
     }
 }
 
-fn side_of(b: u8) -> Side
-    ensures { λ r. ⌜ sideByte r ≡ sideHeld b ⌝ }
+fn side_faults(byte: u64) -> u64
+    ensures { λ r. ⌜ (r ≡ 16 * fault (goodSide byte)) × (r ≤ 16) ⌝ }
 {
-    if b == b'B' { Side::Buy } else { Side::Sell }
-}
-
-// B is 66 and even, S is 83 and odd: one test for both does not branch on which it is.
-fn side_weight(b: u8) -> u64
-    ensures { λ r. ⌜ (r ≡ 16 * fault (goodSide b)) × (r ≤ 16) ⌝ }
-{
-    if b == 66 + 17 * (b % 2) { 0 } else { 16 }
+    let good = Side::good(byte);
+    if good { 0 } else { 16 }
 }
 
 // A side, which stands at Sell while it is refused.
@@ -147,10 +140,10 @@ pub fn side_at(s: &[u8], at: usize) -> Sided
     requires { ⌜ at + 1 ≤ length (now s) ⌝ }
     ensures { λ r. ⌜ IsSided (now (s .entry)) at r ⌝ }
 {
-    let b = wire::u8_at(s, at);
+    let byte = wire::u8_at(s, at) as u64;
     Sided {
-        side: side_of(b),
-        weight: side_weight(b),
+        side: Side::of(byte),
+        faults: side_faults(byte),
     }
 }
 
@@ -165,12 +158,12 @@ pub fn lot_at(s: &[u8], at: usize) -> Lot
     Lot {
         side,
         shares: b.shares,
-        weight: a.weight + b.weight,
+        faults: a.faults + b.faults,
     }
 }
 
 // Y is 89 and odd, N is 78 and even.
-fn printable_weight(b: u8) -> u64
+fn printable_faults(b: u8) -> u64
     ensures { λ r. ⌜ (r ≡ 16 * fault (goodPrintable b)) × (r ≤ 16) ⌝ }
 {
     if b == 78 + 11 * (b % 2) { 0 } else { 16 }
@@ -183,7 +176,7 @@ pub fn printable_at(s: &[u8], at: usize) -> Printable
     let b = wire::u8_at(s, at);
     Printable {
         printable: b,
-        weight: printable_weight(b),
+        faults: printable_faults(b),
     }
 }
 
@@ -195,7 +188,7 @@ pub fn text8_at(s: &[u8], at: usize) -> Text8
     let v = wire::u64_at(s, at);
     Text8 {
         text: v,
-        weight: 16 * text::text8(v),
+        faults: 16 * text::text8(v),
     }
 }
 
@@ -207,7 +200,7 @@ pub fn text4_at(s: &[u8], at: usize) -> Text4
     let v = wire::u32_at(s, at);
     Text4 {
         text: v,
-        weight: 16 * text::text4(v),
+        faults: 16 * text::text4(v),
     }
 }
 
@@ -223,7 +216,7 @@ pub fn two_prices_at(s: &[u8], at: usize) -> TwoPrices
     TwoPrices {
         first,
         second,
-        weight: a.weight + b.weight,
+        faults: a.faults + b.faults,
     }
 }
 
@@ -241,6 +234,6 @@ pub fn three_prices_at(s: &[u8], at: usize) -> ThreePrices
         first,
         second,
         third,
-        weight: a.weight + b.weight,
+        faults: a.faults + b.faults,
     }
 }

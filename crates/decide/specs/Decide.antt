@@ -4,6 +4,7 @@
 use Prim.Native.Nat.{ℕ}
 use mathlib.Core.Bool.{Bool, true, false, not, cond}
 use lib.Dec.{eqb, leb}
+use Rattle.refusals.specs.Refusals.{BOOK, CONFLICT, DUPLICATE, FULL, NO-ORDER, OVER, STOCK, refusalOf}
 use Rattle.directory.specs.declared.Entry.{Entry}
 use Rattle.directory.specs.declared.Entry.the-variants.{Outside, Symbol}
 use Rattle.directory.specs.Directory.{isSymbol}
@@ -38,7 +39,7 @@ gate false n v = refuse n
 
 -- what is found under a reference: no live slot, or what the slot holds
 pub data Seen : Type 0 where
-  nothing : Seen
+  unseen : Seen
   something : Held → Seen
 
 abbrev pub isRegistered : Entry → Bool
@@ -47,26 +48,30 @@ isRegistered (Symbol n) = not (eqb n 0)
 
 -- R: 7, 8; the same symbol again is accepted and changes nothing
 abbrev pub registering : Entry → ℕ → ℕ → Verdict
-registering Outside locate symbol = refuse 7
-registering (Symbol n) locate symbol = cond (eqb n 0) (enroll locate symbol) (gate (eqb n symbol) 8 pass)
+registering Outside locate symbol = refuse STOCK
+registering (Symbol n) locate symbol = cond (eqb n 0) (enroll locate symbol) (gate (eqb n symbol) CONFLICT pass)
 
 -- A, F: 7, 8, 9, 12
 abbrev pub placing : Entry → ℕ → Bool → Bool → Order → Verdict
 placing entry symbol live room o =
-    gate (isRegistered entry) 7 (gate (isSymbol symbol entry) 8 (gate (not live) 9 (gate room 12 (enter o))))
+    gate (isRegistered entry) STOCK (gate (isSymbol symbol entry) CONFLICT (gate (not live) DUPLICATE (gate room FULL (enter o))))
 
--- E, C, X: 10, 13, 8, 11; what they do to the order is `step`
+-- E, C, X, D and U: 10, 13, 8, and then what comes of the order that is seen
+abbrev pub concerning : ℕ → (Order → Verdict) → Seen → Verdict
+concerning locate next unseen = refuse NO-ORDER
+concerning locate next (something Unsound) = refuse BOOK
+concerning locate next (something (Sound o)) = gate (eqb (o .locate .0) locate) CONFLICT (next o)
+
+-- E, C, X then: 11; what they do to the order is `step`
+abbrev pub takingFrom : (Order → ℕ → Order) → ℕ → Order → Verdict
+takingFrom step n o = gate (leb n (remaining o)) OVER (alter o (step o n) n)
+
 abbrev pub taking : (Order → ℕ → Order) → ℕ → ℕ → Seen → Verdict
-taking step locate n nothing = refuse 10
-taking step locate n (something Unsound) = refuse 13
-taking step locate n (something (Sound o)) =
-    gate (eqb (o .locate .0) locate) 8 (gate (leb n (remaining o)) 11 (alter o (step o n) n))
+taking step locate n seen = concerning locate (takingFrom step n) seen
 
--- D: 10, 13, 8
+-- D
 abbrev pub closing : ℕ → Seen → Verdict
-closing locate nothing = refuse 10
-closing locate (something Unsound) = refuse 13
-closing locate (something (Sound o)) = gate (eqb (o .locate .0) locate) 8 (leave o)
+closing locate seen = concerning locate leave seen
 
 -- NSDQ
 abbrev pub unattributed : ℕ
@@ -86,16 +91,17 @@ renewed o new shares price = record {
   attribution = unattributed;
 }
 
--- U: 10, 13, 8, 9
+-- U then: 9
+abbrev pub replacingOf : ℕ → ℕ → ℕ → ℕ → Bool → Order → Verdict
+replacingOf original new shares price live o =
+    gate (not (eqb new original)) DUPLICATE (gate (not live) DUPLICATE (renew o (renewed o new shares price)))
+
 abbrev pub replacing : ℕ → ℕ → ℕ → ℕ → ℕ → Bool → Seen → Verdict
-replacing locate original new shares price live nothing = refuse 10
-replacing locate original new shares price live (something Unsound) = refuse 13
-replacing locate original new shares price live (something (Sound o)) =
-    gate (eqb (o .locate .0) locate) 8 (gate (not (eqb new original)) 9 (gate (not live) 9 (renew o (renewed o new shares price))))
+replacing locate original new shares price live seen = concerning locate (replacingOf original new shares price live) seen
 
 -- what the answer says of a verdict
 abbrev pub stepOf : Verdict → Step
-stepOf (refuse n) = Refused (record { number = n })
+stepOf (refuse n) = Refused (refusalOf n)
 stepOf (enter o) = One (figuresOf o (o .added) (remaining o))
 stepOf (alter o o′ n) = One (figuresOf o n (remaining o′))
 stepOf (leave o) = One (figuresOf o (remaining o) 0)

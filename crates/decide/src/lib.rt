@@ -2,11 +2,12 @@
 // named here. It holds the types of the answer and no table.
 ghost use mathlib.Core.Path.{_≡_};
 ghost use Rattle.decide.specs.Figured.{figuresOf};
+ghost use Rattle.refusals.specs.Refusals.{refusalOf};
 use kinds::Locate;
 use kinds::Price;
 use kinds::Side;
-use messages::Refusal;
 use orders::Order;
+use refusals::Refusal;
 
 // What the answer says of an order: its locate, side and price, the shares taken from it or put, and what then remains.
 pub struct Figures {
@@ -41,7 +42,7 @@ pub fn figured(o: Order, shares: u32, remains: u32) -> Figures
 }
 
 pub fn refuse(n: u8) -> Step
-    ensures { λ r. ⌜ r ≡ Step.Refused (record { number = n }) ⌝ }
+    ensures { λ r. ⌜ r ≡ Step.Refused (refusalOf n) ⌝ }
 {
-    Step::Refused(Refusal { number: n })
+    Step::Refused(Refusal::of(n))
 }

@@ -1,7 +1,6 @@
 // The directory of stocks: what stands at a locate, and registering a symbol there. It knows nothing of messages.
 ghost use mathlib.Core.Path.{_≡_};
-ghost use mathlib.Core.Bool.{cond};
-ghost use Prim.Native.Nat.{_≤_, _<_};
+ghost use Prim.Native.Nat.{_<_};
 ghost use lib.ListN.{length};
 ghost use Rattle.directory.specs.Directory.{entryAt, goodLength, registered};
 use kinds::Locate;
@@ -12,11 +11,14 @@ pub enum Entry {
     Symbol(u64),
 }
 
+// The most numbers that a directory may have.
+const MOST_NUMBERS: usize = 8192;
+
 // Whether a directory may have n numbers.
 pub fn good_length(n: usize) -> bool
     ensures { λ r. ⌜ r ≡ goodLength n ⌝ }
 {
-    2 <= n && n <= 8192
+    2 <= n && n <= MOST_NUMBERS
 }
 
 pub fn entry_at(directory: &[u64], locate: Locate) -> Entry

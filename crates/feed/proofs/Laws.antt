@@ -8,13 +8,12 @@ use mathlib.Core.List.{List, []}
 use borrow.Author.Tests.{eq-eqb, ne-eqb}
 use lib.ListN.{length, take-append-drop}
 use Rattle.laws.specs.Least.{lt-or-le}
-use Rattle.apply.specs.Apply.{After, applied}
-use Rattle.outcomes.specs.Outcomes.{numberOf}
+use Rattle.apply.specs.Apply.{After, applied, numberOf}
 use Rattle.records.specs.Append.{appended, reach}
 use Rattle.records.specs.Records.{refusalRecord}
 use Rattle.records.specs.RecordLaws.{appended-fits, reach-fits, appended-over, reach-over, length-refusalRecord}
 use Rattle.feed.specs.declared.Tally.{Tally}
-use Rattle.feed.specs.Feed.{Leaves, closes, counted, more, onward, recordOf, told}
+use Rattle.feed.specs.Feed.{FeedLeaves, closes, counted, more, onward, recordOf, told}
 use Rattle.feed.specs.Step.{stepped}
 
 -- ---- a record behind those in a buffer
@@ -51,7 +50,7 @@ module _ (t : Tally) (number : ℕ) where
 
 -- ---- one message
 
-pub one : (s : List ℕ) (end : ℕ) (x : Leaves) (a : After) (number w : ℕ) (t : Tally) (o : List ℕ) → a ≡ applied (x .directory) (x .book) s
+pub one : (s : List ℕ) (end : ℕ) (x : FeedLeaves) (a : After) (number w : ℕ) (t : Tally) (o : List ℕ) → a ≡ applied (x .directory) (x .book) s
     → number ≡ numberOf (a .outcome) → w ≡ reach (x .out) (x .fed .written) (told (x .fed .tally) number)
     → o ≡ appended (x .out) (x .fed .written) (told (x .fed .tally) number) → t ≡ counted (x .fed .tally) number
     → record { fed = record { at = end; written = w; tally = t }; directory = a .directory; book = a .book; out = o } ≡ stepped s end x

@@ -11,14 +11,14 @@ use lib.Dec.{leb}
 use lib.ListN.{length, take, drop, length-append, length-drop, take-append-drop}
 use lib.Seq.{length-take-le, take-at, drop-at, drop-drop}
 use Rattle.laws.specs.Bools.{and-both}
-use Rattle.blocks.specs.Blocks.{whole, body, behind}
-use Rattle.blocks.specs.BlockLaws.{Found}
+use Rattle.blocks.specs.Blocks.{wholeBlock, body, behind}
+use Rattle.blocks.specs.BlockLaws.{FoundBlock}
 use Rattle.records.specs.Append.{appended, reach}
 use Rattle.records.specs.Records.{refusalSize}
 use Rattle.records.specs.RecordLaws.{appended-fits, reach-fits}
 use Rattle.feed.specs.declared.Tally.{Tally}
-use Rattle.feed.specs.Feed.{Day, Ran, Leaves, behindOf, leaves, onward, ranThrough, recordOf}
-use Rattle.feed.specs.FeedLaws.{taken, through-stops, through-takes, record-fits}
+use Rattle.feed.specs.Feed.{Day, Ran, FeedLeaves, recordBehind, feedLeaves, onward, ranThrough, recordOf}
+use Rattle.feed.specs.FeedLaws.{turn-taken, through-stops, through-takes, record-fits}
 use Rattle.feed.specs.Step.{dayOf, stepped}
 
 -- ---- a record that fits
@@ -42,28 +42,28 @@ module _ (out : List ℕ) (at : ℕ) (row : List ℕ) (l : at + length row ≤ l
 -- ---- the loop
 
 -- x stands at a place of the input: what is written stands at the front of the buffer, and the rest of it is as it was
-pub record Going (s out : List ℕ) (day : Day) (x : Leaves) : Type 0 where
+pub record Going (s out : List ℕ) (day : Day) (x : FeedLeaves) : Type 0 where
   pub read : x .fed .at ≤ length s
   pub fits : x .fed .written ≤ length out
   pub size : length (x .out) ≡ length out
   pub rest : drop (x .fed .written) (x .out) ≡ drop (x .fed .written) out
-  pub run : ranThrough (length out) s day ≡ behindOf (take (x .fed .written) (x .out)) (ranThrough (length out - x .fed .written) (drop (x .fed .at) s) (dayOf x))
+  pub run : ranThrough (length out) s day ≡ recordBehind (take (x .fed .written) (x .out)) (ranThrough (length out - x .fed .written) (drop (x .fed .at) s) (dayOf x))
 
 pub start : (s d b out : List ℕ) (t : Tally)
     → Going s out (record { directory = d; book = b; tally = t }) (record { fed = record { at = 0; written = 0; tally = t }; directory = d; book = b; out = out })
 start s d b out t = record { read = omega arith; fits = omega arith; size = refl; rest = refl; run = rw sub-zero }
 
-no-room : (room : ℕ) (s : List ℕ) → room < refusalSize → taken room s ≡ false
-no-room room s l = rw (lt-leb refusalSize room l) (go (whole s))
+no-room : (room : ℕ) (s : List ℕ) → room < refusalSize → turn-taken room s ≡ false
+no-room room s l = rw (lt-leb refusalSize room l) (go (wholeBlock s))
   where
     go : (b : Bool) → b && false ≡ false
     go true = refl
     go false = refl
 
-twice : (a b : List ℕ) (x : Ran) → behindOf a (behindOf b x) ≡ behindOf (a ++ b) x
+twice : (a b : List ℕ) (x : Ran) → recordBehind a (recordBehind b x) ≡ recordBehind (a ++ b) x
 twice a b x = rw append-assoc
 
-module _ (s out : List ℕ) (day : Day) (x : Leaves) (g : Going s out day x) where
+module _ (s out : List ℕ) (day : Day) (x : FeedLeaves) (g : Going s out day x) where
   abbrev w : ℕ
   w = x .fed .written
 
@@ -71,29 +71,29 @@ module _ (s out : List ℕ) (day : Day) (x : Leaves) (g : Going s out day x) whe
   here = drop (x .fed .at) s
 
   -- no block more
-  ends : taken (length out - w) here ≡ false → x ≡ leaves s out (ranThrough (length out) s day)
+  ends : turn-taken (length out - w) here ≡ false → x ≡ feedLeaves s out (ranThrough (length out) s day)
   ends e =
       let l : w ≤ length (x .out) = omega arith in
       let a : length s - (length s - x .fed .at) ≡ x .fed .at = omega arith in
-      sym (ap (leaves s out) (g .run ∙ ap (behindOf (take w (x .out))) (through-stops (length out - w) here (dayOf x) e))
+      sym (ap (feedLeaves s out) (g .run ∙ ap (recordBehind (take w (x .out))) (through-stops (length out - w) here (dayOf x) e))
       ∙ rw (append-nil, length-take-le w (x .out) l, ← g .rest, take-append-drop, length-drop, a))
 
-  pub full : length (x .out) - w < refusalSize → x ≡ leaves s out (ranThrough (length out) s day)
+  pub full : length (x .out) - w < refusalSize → x ≡ feedLeaves s out (ranThrough (length out) s day)
   full l = ends (no-room (length out - w) here (omega (arith, g .size)))
 
-  pub part : whole here ≡ false → x ≡ leaves s out (ranThrough (length out) s day)
+  pub part : wholeBlock here ≡ false → x ≡ feedLeaves s out (ranThrough (length out) s day)
   part e = ends (rw e)
 
   -- one block more
-  module _ (from end : ℕ) (f : Found s (x .fed .at) from end) (r : refusalSize ≤ length (x .out) - w) where
+  module _ (from end : ℕ) (f : FoundBlock s (x .fed .at) from end) (r : refusalSize ≤ length (x .out) - w) where
     abbrev row : List ℕ
     row = recordOf (dayOf x) (body here)
 
-    run-more : ranThrough (length out) s day ≡ behindOf (take w (x .out) ++ row) (ranThrough (length out - (w + length row)) (drop end s) (onward (dayOf x) (body here)))
+    run-more : ranThrough (length out) s day ≡ recordBehind (take w (x .out) ++ row) (ranThrough (length out - (w + length row)) (drop end s) (onward (dayOf x) (body here)))
     run-more =
-        let t = and-both (whole here) (leb refusalSize (length out - w)) (f .whole-there) (le-leb refusalSize (length out - w) (omega (arith, g .size))) in
+        let t = and-both (wholeBlock here) (leb refusalSize (length out - w)) (f .whole-there) (le-leb refusalSize (length out - w) (omega (arith, g .size))) in
         let n : length out - w - length row ≡ length out - (w + length row) = omega arith in
-        g .run ∙ ap (behindOf (take w (x .out))) (through-takes (length out - w) here (dayOf x) t)
+        g .run ∙ ap (recordBehind (take w (x .out))) (through-takes (length out - w) here (dayOf x) t)
         ∙ rw (n, f .rest) (twice (take w (x .out)) row (ranThrough (length out - (w + length row)) (behind here) (onward (dayOf x) (body here))))
 
     goes-on : Going s out day (stepped (body here) end x)
@@ -111,5 +111,5 @@ module _ (s out : List ℕ) (day : Day) (x : Leaves) (g : Going s out day x) whe
           run = rw (put-take (x .out) w row l, m) run-more;
         }
 
-    pub goes : (y : Leaves) → y ≡ stepped (take (end - from) (drop from s)) end x → Going s out day y
+    pub goes : (y : FeedLeaves) → y ≡ stepped (take (end - from) (drop from s)) end x → Going s out day y
     goes y e = subst (Going s out day) (sym (e ∙ ap (λ (b : List ℕ). stepped b end x) (f .message))) goes-on

@@ -5,9 +5,9 @@ use mathlib.Core.Bool.{cond, _&&_}
 use mathlib.Core.List.{List, [], _++_}
 use lib.Dec.{eqb, leb}
 use lib.ListN.{length, drop}
-use Rattle.apply.specs.Apply.{After, applied}
-use Rattle.outcomes.specs.Outcomes.{numberOf}
-use Rattle.blocks.specs.Blocks.{whole, body, behind}
+use Rattle.refusals.specs.Refusals.{LENGTH}
+use Rattle.apply.specs.Apply.{applied, numberOf}
+use Rattle.blocks.specs.Blocks.{wholeBlock, body, behind}
 use Rattle.records.specs.Records.{refusalRecord, refusalSize}
 use Rattle.feed.specs.declared.Tally.{Tally}
 use Rattle.feed.specs.declared.Fed.{Fed}
@@ -57,15 +57,15 @@ pub record Ran : Type 0 where
   pub left : List ℕ
   pub day : Day
 
-abbrev pub behindOf : List ℕ → Ran → Ran
-behindOf first x = record { records = first ++ x .records; left = x .left; day = x .day }
+abbrev pub recordBehind : List ℕ → Ran → Ran
+recordBehind first x = record { records = first ++ x .records; left = x .left; day = x .day }
 
 -- at most n blocks, into so much room
 unfoldable pub ran : ℕ → ℕ → List ℕ → Day → Ran
 ran zero room s day = record { records = []; left = s; day = day }
 ran (suc n) room s day =
-    cond (whole s && leb refusalSize room)
-    (behindOf (recordOf day (body s)) (ran n (room - length (recordOf day (body s))) (behind s) (onward day (body s))))
+    cond (wholeBlock s && leb refusalSize room)
+    (recordBehind (recordOf day (body s)) (ran n (room - length (recordOf day (body s))) (behind s) (onward day (body s))))
     (record { records = []; left = s; day = day })
 
 -- as many blocks as there are: none is shorter than 2 bytes
@@ -74,14 +74,14 @@ ranThrough room s day = ran (length s) room s day
 
 -- ---- what the call leaves
 
-pub record Leaves : Type 0 where
+pub record FeedLeaves : Type 0 where
   pub fed : Fed
   pub directory : List ℕ
   pub book : List ℕ
   pub out : List ℕ
 
-abbrev pub leaves : List ℕ → List ℕ → Ran → Leaves
-leaves s out x = record {
+abbrev pub feedLeaves : List ℕ → List ℕ → Ran → FeedLeaves
+feedLeaves s out x = record {
   fed = record { at = length s - length (x .left); written = length (x .records); tally = x .day .tally };
   directory = x .day .directory;
   book = x .day .book;
@@ -92,10 +92,10 @@ leaves s out x = record {
 
 -- bytes that make no whole block are one message, refused with 1 and never applied
 abbrev pub closedTally : ℕ → Tally → Tally
-closedTally left t = cond (eqb left 0) t (counted t 1)
+closedTally left t = cond (eqb left 0) t (counted t LENGTH)
 
 abbrev pub closedRecord : ℕ → Tally → List ℕ
-closedRecord left t = cond (eqb left 0) [] (told t 1)
+closedRecord left t = cond (eqb left 0) [] (told t LENGTH)
 
 -- what the call leaves there
 pub record Closes : Type 0 where

@@ -9,36 +9,36 @@ use mathlib.Core.List.{List, []}
 use lib.Dec.{eqb, leb}
 use lib.ListN.{length}
 use Rattle.laws.specs.Bools.{cases, and-left}
-use Rattle.blocks.specs.Blocks.{whole, body, behind}
+use Rattle.blocks.specs.Blocks.{wholeBlock, body, behind}
 use Rattle.blocks.specs.BlockLaws.{not-whole, length-behind}
 use Rattle.records.specs.Records.{refusalRecord, refusalSize}
 use Rattle.records.specs.RecordLaws.{length-refusalRecord}
-use Rattle.feed.specs.Feed.{Day, Ran, more, onward, numbered, recordOf, behindOf, ran, ranThrough}
+use Rattle.feed.specs.Feed.{Day, Ran, more, onward, numbered, recordOf, recordBehind, ran, ranThrough}
 
 -- a block is taken where one is whole and there is room
-abbrev pub taken : ℕ → List ℕ → Bool
-taken room s = whole s && leb refusalSize room
+abbrev pub turn-taken : ℕ → List ℕ → Bool
+turn-taken room s = wholeBlock s && leb refusalSize room
 
 abbrev pub still : List ℕ → Day → Ran
 still s day = record { records = []; left = s; day = day }
 
 -- ---- at most n blocks
 
-pub ran-stops : (n room : ℕ) (s : List ℕ) (day : Day) → taken room s ≡ false → ran n room s day ≡ still s day
+pub ran-stops : (n room : ℕ) (s : List ℕ) (day : Day) → turn-taken room s ≡ false → ran n room s day ≡ still s day
 unfolding ran
 ran-stops zero room s day e = refl
 ran-stops (suc n) room s day e = rw e
 
-pub ran-takes : (n room : ℕ) (s : List ℕ) (day : Day) → taken room s ≡ true
-    → ran (suc n) room s day ≡ behindOf (recordOf day (body s)) (ran n (room - length (recordOf day (body s))) (behind s) (onward day (body s)))
+pub ran-takes : (n room : ℕ) (s : List ℕ) (day : Day) → turn-taken room s ≡ true
+    → ran (suc n) room s day ≡ recordBehind (recordOf day (body s)) (ran n (room - length (recordOf day (body s))) (behind s) (onward day (body s)))
 unfolding ran
 ran-takes n room s day e = rw e
 
-none-taken : (room : ℕ) (s : List ℕ) → length s ≤ 0 → taken room s ≡ false
+none-taken : (room : ℕ) (s : List ℕ) → length s ≤ 0 → turn-taken room s ≡ false
 none-taken room s l = rw (not-whole s (omega arith))
 
-shorter : (room : ℕ) (s : List ℕ) → taken room s ≡ true → length (behind s) + 2 ≤ length s
-shorter room s e = omega (arith, length-behind s (and-left (whole s) (leb refusalSize room) e))
+shorter : (room : ℕ) (s : List ℕ) → turn-taken room s ≡ true → length (behind s) + 2 ≤ length s
+shorter room s e = omega (arith, length-behind s (and-left (wholeBlock s) (leb refusalSize room) e))
 
 -- more than there are changes nothing
 pub ran-same : (n m room : ℕ) (s : List ℕ) (day : Day) → length s ≤ n → length s ≤ m → ran n room s day ≡ ran m room s day
@@ -53,23 +53,23 @@ ran-same (suc n) (suc m) room s day p q =
     (λ e.
     let l = shorter room s e in
     ran-takes n room s day e
-    ∙ ap (behindOf (recordOf day (body s))) (ran-same n m (room - length (recordOf day (body s))) (behind s) (onward day (body s)) (omega arith) (omega arith))
+    ∙ ap (recordBehind (recordOf day (body s))) (ran-same n m (room - length (recordOf day (body s))) (behind s) (onward day (body s)) (omega arith) (omega arith))
     ∙ sym (ran-takes m room s day e))
     (λ e. ran-stops (suc n) room s day e ∙ sym (ran-stops (suc m) room s day e))
-    (cases (taken room s))
+    (cases (turn-taken room s))
 
 -- ---- as many blocks as there are
 
-pub through-stops : (room : ℕ) (s : List ℕ) (day : Day) → taken room s ≡ false → ranThrough room s day ≡ still s day
+pub through-stops : (room : ℕ) (s : List ℕ) (day : Day) → turn-taken room s ≡ false → ranThrough room s day ≡ still s day
 through-stops room s day e = ran-stops (length s) room s day e
 
-pub through-takes : (room : ℕ) (s : List ℕ) (day : Day) → taken room s ≡ true
-    → ranThrough room s day ≡ behindOf (recordOf day (body s)) (ranThrough (room - length (recordOf day (body s))) (behind s) (onward day (body s)))
+pub through-takes : (room : ℕ) (s : List ℕ) (day : Day) → turn-taken room s ≡ true
+    → ranThrough room s day ≡ recordBehind (recordOf day (body s)) (ranThrough (room - length (recordOf day (body s))) (behind s) (onward day (body s)))
 through-takes room s day e =
     let l = shorter room s e in
     ran-same (length s) (suc (length s)) room s day (omega arith) (omega arith)
     ∙ ran-takes (length s) room s day e
-    ∙ ap (behindOf (recordOf day (body s))) (ran-same (length s) (length (behind s)) (room - length (recordOf day (body s))) (behind s) (onward day (body s)) (omega arith) (omega arith))
+    ∙ ap (recordBehind (recordOf day (body s))) (ran-same (length s) (length (behind s)) (room - length (recordOf day (body s))) (behind s) (onward day (body s)) (omega arith) (omega arith))
 
 -- ---- a message's record
 

@@ -2,14 +2,14 @@
 use Prim.Native.Nat.{ℕ}
 use mathlib.Core.List.{List}
 use Rattle.records.specs.Append.{appended, reach}
-use Rattle.feed.specs.Feed.{Day, Leaves, onward, recordOf}
+use Rattle.feed.specs.Feed.{Day, FeedLeaves, onward, recordOf}
 
 -- where the day stands
-abbrev pub dayOf : Leaves → Day
+abbrev pub dayOf : FeedLeaves → Day
 dayOf x = record { directory = x .directory; book = x .book; tally = x .fed .tally }
 
 -- the message s, which ends at a place of the input
-abbrev pub stepped : List ℕ → ℕ → Leaves → Leaves
+abbrev pub stepped : List ℕ → ℕ → FeedLeaves → FeedLeaves
 stepped s end x = record {
   fed = record {
     at = end;

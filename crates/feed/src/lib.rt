@@ -2,12 +2,13 @@
 // tables, and a buffer for the records, and knows nothing of files.
 ghost use mathlib.Core.Path.{_≡_};
 ghost use lib.ListN.{length};
+ghost use Rattle.apply.specs.Apply.{numberOf};
 ghost use Rattle.records.specs.Append.{appended, reach};
-ghost use Rattle.outcomes.specs.Outcomes.{numberOf};
-ghost use Rattle.feed.specs.Feed.{closes, counted, leaves, more, ranThrough, told};
+ghost use Rattle.feed.specs.Feed.{closes, counted, feedLeaves, more, ranThrough, told};
 ghost use Rattle.feed.specs.Step.{stepped};
 use apply::Outcome;
 use blocks::Block;
+use refusals::LENGTH;
 
 // How many messages there were, and how many of them were refused.
 pub struct Tally {
@@ -99,7 +100,7 @@ pub fn feed(
     tally: Tally,
     out: &mut [u8],
 ) -> Fed
-    ensures { λ r. ⌜ record { fed = r; directory = now (directory .exit); book = now (book .exit); out = now (out .exit) } ≡ leaves (now (input .entry)) (now (out .entry)) (ranThrough (length (now (out .entry))) (now (input .entry)) (record { directory = now (directory .entry); book = now (book .entry); tally = tally })) ⌝ }
+    ensures { λ r. ⌜ record { fed = r; directory = now (directory .exit); book = now (book .exit); out = now (out .exit) } ≡ feedLeaves (now (input .entry)) (now (out .entry)) (ranThrough (length (now (out .entry))) (now (input .entry)) (record { directory = now (directory .entry); book = now (book .entry); tally = tally })) ⌝ }
 {
     let mut fed = Fed {
         at: 0,
@@ -131,10 +132,10 @@ pub fn close(left: usize, tally: Tally, out: &mut [u8; 10]) -> Fed
         };
     }
     let whole: &mut [u8] = out;
-    let written = tell(tally, 1, 0, whole);
+    let written = tell(tally, LENGTH, 0, whole);
     Fed {
         at: left,
         written,
-        tally: count(tally, 1),
+        tally: count(tally, LENGTH),
     }
 }

@@ -5,6 +5,7 @@ use mathlib.Core.Bool.{Bool, cond, _&&_}
 use mathlib.Core.List.{List}
 use lib.Dec.{ltb}
 use lib.ListN.{length, replicate}
+use Rattle.refusals.specs.Refusals.{SHAPE, refusalOf}
 use Rattle.book.specs.Book.{wordsOf}
 use Rattle.directory.specs.Directory.{goodLength}
 use Rattle.fresh.specs.declared.Made.{Made}
@@ -20,14 +21,14 @@ madeNumber Fresh = 0
 madeNumber (Refused r) = r .number
 
 unfoldable pub madeOf : List ℕ → List ℕ → Made
-madeOf d b = cond (goodShapes d b) Fresh (Refused (record { number = 14 }))
+madeOf d b = cond (goodShapes d b) Fresh (Refused (refusalOf SHAPE))
 
 -- a table t of the pair after the call
 unfoldable pub freshOf : List ℕ → List ℕ → List ℕ → List ℕ
 freshOf d b t = cond (goodShapes d b) (replicate (length t) 0) t
 
 -- what the call comes to, of the tables d and b
-pub record Comes (d b d′ b′ : List ℕ) (r : Made) : Type 0 where
+pub record MakesFresh (d b d′ b′ : List ℕ) (r : Made) : Type 0 where
   pub made : r ≡ madeOf d b
   pub directory : d′ ≡ freshOf d b d
   pub book : b′ ≡ freshOf d b b

@@ -1,8 +1,10 @@
 // Making both tables fresh: all zero, or 14 and nothing changed.
 ghost use mathlib.Core.Path.{_≡_};
 ghost use lib.ListN.{length, replicate};
-ghost use Rattle.fresh.specs.Fresh.{Comes};
-use messages::Refusal;
+ghost use Rattle.fresh.specs.Fresh.{MakesFresh};
+ghost use Rattle.refusals.specs.Refusals.{SHAPE, refusalOf};
+use refusals::Refusal;
+use refusals::SHAPE;
 
 // What making tables fresh comes to.
 pub enum Made {
@@ -21,13 +23,13 @@ fn zero(table: &mut [u64])
 }
 
 fn refuse() -> Made
-    ensures { λ r. ⌜ r ≡ Made.Refused (record { number = 14 }) ⌝ }
+    ensures { λ r. ⌜ r ≡ Made.Refused (refusalOf SHAPE) ⌝ }
 {
-    Made::Refused(Refusal { number: 14 })
+    Made::Refused(Refusal::of(SHAPE))
 }
 
 pub fn make_fresh(directory: &mut [u64], book: &mut [u64]) -> Made
-    ensures { λ r. ⌜ Comes (now (directory .entry)) (now (book .entry)) (now (directory .exit)) (now (book .exit)) r ⌝ }
+    ensures { λ r. ⌜ MakesFresh (now (directory .entry)) (now (book .entry)) (now (directory .exit)) (now (book .exit)) r ⌝ }
 {
     let good = directory::good_length(directory.len());
     if !good {

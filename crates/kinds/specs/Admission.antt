@@ -3,7 +3,6 @@
 use Prim.Native.Nat.{ℕ}
 use mathlib.Core.Bool.{cond}
 use lib.Dec.{leb}
-use Rattle.kinds.specs.declared.Price.{Price}
 use Rattle.kinds.specs.declared.Admission.{Admission}
 use Rattle.kinds.specs.declared.Admission.the-variants.{Admitted, TooHigh}
 

@@ -1,6 +1,8 @@
 // The kinds of number that cannot be mixed, and the price with its bound. It knows nothing of messages or tables.
 ghost use mathlib.Core.Path.{_≡_};
+ghost use Prim.Native.Nat.{_≤_};
 ghost use Rattle.kinds.specs.Admission.{admission};
+ghost use Rattle.kinds.specs.Sides.{goodSide, sideByte, sideOf};
 
 // A stock's locate code.
 pub struct Locate(pub u16);
@@ -17,6 +19,32 @@ pub struct Price(pub u32);
 pub enum Side {
     Buy,
     Sell,
+}
+
+impl Side {
+    // Its byte, B or S.
+    pub fn byte(self) -> u64
+        ensures { λ r. ⌜ (r ≡ sideByte self) × (r ≤ 83) ⌝ }
+    {
+        match self {
+            Side::Buy => 66,
+            Side::Sell => 83,
+        }
+    }
+
+    // The side of a byte that is B or S; any other is held as Sell while it is refused.
+    pub fn of(byte: u64) -> Side
+        ensures { λ r. ⌜ r ≡ sideOf byte ⌝ }
+    {
+        if byte == 66 { Side::Buy } else { Side::Sell }
+    }
+
+    // Whether a byte is a side's. B is even and S is odd: one test for both does not branch on which it is.
+    pub fn good(byte: u64) -> bool
+        ensures { λ r. ⌜ r ≡ goodSide byte ⌝ }
+    {
+        byte == 66 + 17 * (byte % 2)
+    }
 }
 
 // What becomes of a number that is offered as a price.

@@ -9,46 +9,42 @@ use lib.Dec.{eqb, ltb}
 use lib.ListN.{length}
 use borrow.Author.Tests.{ltb-true, ltb-false, lt-ltb, le-ltb, eq-eqb, ne-eqb}
 use Rattle.laws.specs.Least.{lt-or-le}
+use Rattle.refusals.specs.Refusals.{BOOK, SHAPE}
 use Rattle.kinds.specs.declared.Side.{Side}
 use Rattle.kinds.specs.declared.Side.the-variants.{Buy, Sell}
-use Rattle.messages.specs.declared.Refusal.{Refusal}
-use Rattle.messages.specs.Numbers.{sideByte}
-use Rattle.messages.specs.Typed.{sideOf}
-use Rattle.wellformed.specs.WellFormed.{goodSide}
+use Rattle.refusals.specs.declared.Refusal.{Refusal}
+use Rattle.kinds.specs.Sides.{sideByte, sideOf, goodSide}
+use Rattle.kinds.specs.SideLaws.{side-back}
 use Rattle.book.specs.Book.{wordsOf}
 use Rattle.levels.specs.declared.Level.{Level}
 use Rattle.levels.specs.declared.Quote.{Quote}
 use Rattle.levels.specs.declared.Quote.the-variants.{Refused, Nothing, Stands}
 use Rattle.levels.specs.Totals.{total}
-use Rattle.levels.specs.Levels.{unsoundness, allPrices, priceAt, stepsTo, levelAt, standing, refused, checked}
-use Rattle.levels.specs.Meaning.{steps-price}
+use Rattle.levels.specs.Levels.{unsoundness, allPrices, priceAt, ticksTo, levelAt, standing, noQuote, checked}
+use Rattle.levels.specs.Meaning.{ticks-price}
 use Rattle.ladders.specs.declared.Next.the-variants.{At, End}
-use Rattle.ladders.specs.Ladders.{firstOf, locateAt, sideAt, stepAt, levelThere, readable, firstPlace}
+use Rattle.ladders.specs.Ladders.{firstOf, locateAt, sideAt, tickAt, levelThere, readable, firstRung}
 use Rattle.ladders.specs.Search.{onSide, sideAfter, quoteAt, nextFrom}
-use Rattle.ladders.specs.PlaceLaws.{stepOn, first-unread, first-late, found-here, side-after, same-locate, same-side}
+use Rattle.ladders.specs.RungLaws.{tickOn, first-unread, first-late, found-here, side-after, same-locate, same-side}
 
--- ---- the side of a place
+-- ---- the side of a rung
 
-pub buys : (p : ℕ) → p / allPrices % 2 ≡ 0 → sideAt p ≡ Buy
-buys p e = rw (eq-eqb (p / allPrices % 2) 0 e)
+pub buy-rung : (p : ℕ) → p / allPrices % 2 ≡ 0 → sideAt p ≡ Buy
+buy-rung p e = rw (eq-eqb (p / allPrices % 2) 0 e)
 
-pub sells : (p : ℕ) → (p / allPrices % 2 ≡ 0 → ⊥) → sideAt p ≡ Sell
-sells p d = rw (ne-eqb (p / allPrices % 2) 0 d)
-
-side-back : (s : Side) → sideOf (sideByte s) ≡ s
-side-back Buy = refl
-side-back Sell = refl
+pub sell-rung : (p : ℕ) → (p / allPrices % 2 ≡ 0 → ⊥) → sideAt p ≡ Sell
+sell-rung p d = rw (ne-eqb (p / allPrices % 2) 0 d)
 
 side-good : (s : Side) → goodSide (sideByte s) ≡ true
 unfolding goodSide
 side-good Buy = refl
 side-good Sell = refl
 
--- the answer to what a side is asked by its letter is the place's
-pub asks : (b : List ℕ) (p locate byte step : ℕ) (r : Quote) → locate ≡ locateAt p → byte ≡ sideByte (sideAt p) → step ≡ stepAt p
-    → r ≡ checked b byte (standing b (wordsOf (length b)) locate (sideOf byte) step) → r ≡ quoteAt b p
+-- the answer to what a side is asked by its letter is the rung's
+pub asks : (b : List ℕ) (p locate byte tick : ℕ) (r : Quote) → locate ≡ locateAt p → byte ≡ sideByte (sideAt p) → tick ≡ tickAt p
+    → r ≡ checked b byte (standing b (wordsOf (length b)) locate (sideOf byte) tick) → r ≡ quoteAt b p
 unfolding quoteAt
-asks b p locate byte step r l y s e = rw (l, y, s) at e ∙ rw (side-back (sideAt p))
+asks b p locate byte tick r l y s e = rw (l, y, s) at e ∙ rw (side-back (sideAt p))
 
 -- ---- what an answer says
 
@@ -59,7 +55,7 @@ Says r v l Nothing = (r ≡ true) × (v ≡ false)
 Says r v l (Stands x) = (r ≡ true) × (v ≡ true) × (x ≡ l)
 
 says : (t u v : Bool) (l : Level)
-    → Says (cond t false u) v l (cond t (refused 14) (cond u (cond v (Stands l) Nothing) (refused 13)))
+    → Says (cond t false u) v l (cond t (noQuote SHAPE) (cond u (cond v (Stands l) Nothing) (noQuote BOOK)))
 says true u v l = refl
 says false false v l = refl
 says false true true l = (refl, refl, refl)
@@ -67,29 +63,29 @@ says false true false l = (refl, refl)
 
 module _ (b : List ℕ) (p : ℕ) where
   abbrev levelOn : Level
-  levelOn = levelAt b (wordsOf (length b)) (locateAt p) (sideAt p) (priceAt (sideAt p) (stepOn b p))
+  levelOn = levelAt b (wordsOf (length b)) (locateAt p) (sideAt p) (priceAt (sideAt p) (tickOn b p))
 
-  quote-says : (x : Quote) → quoteAt b p ≡ x → Says (readable b) (ltb (stepOn b p) allPrices) levelOn x
+  quote-says : (x : Quote) → quoteAt b p ≡ x → Says (readable b) (ltb (tickOn b p) allPrices) levelOn x
   unfolding quoteAt readable standing
   quote-says x e =
       let k = wordsOf (length b) in
-      subst (Says (cond (eqb k 0) false (eqb (total unsoundness b k) 0)) (ltb (stepOn b p) allPrices) levelOn) e
-      (rw (side-good (sideAt p)) (says (eqb k 0) (eqb (total unsoundness b k) 0) (ltb (stepOn b p) allPrices) levelOn))
+      subst (Says (cond (eqb k 0) false (eqb (total unsoundness b k) 0)) (ltb (tickOn b p) allPrices) levelOn) e
+      (rw (side-good (sideAt p)) (says (eqb k 0) (eqb (total unsoundness b k) 0) (ltb (tickOn b p) allPrices) levelOn))
 
 -- ---- the search
 
 module _ (b : List ℕ) (from to : ℕ) where
-  no-next : to ≤ firstPlace b from to → End ≡ nextFrom b from to
+  no-next : to ≤ firstRung b from to → End ≡ nextFrom b from to
   unfolding nextFrom
-  no-next l = rw (le-ltb (firstPlace b from to) to l)
+  no-next l = rw (le-ltb (firstRung b from to) to l)
 
-  some-next : firstPlace b from to < to → At (firstPlace b from to) (levelThere b (wordsOf (length b)) (firstPlace b from to)) ≡ nextFrom b from to
+  some-next : firstRung b from to < to → At (firstRung b from to) (levelThere b (wordsOf (length b)) (firstRung b from to)) ≡ nextFrom b from to
   unfolding nextFrom
-  some-next l = rw (lt-ltb (firstPlace b from to) to l)
+  some-next l = rw (lt-ltb (firstRung b from to) to l)
 
   -- past the end
   pub search-done : to ≤ from → End ≡ nextFrom b from to
-  search-done h = no-next (⊎-elim (λ l. omega (arith, first-late b from to l)) (λ l. l) (lt-or-le (firstPlace b from to) to))
+  search-done h = no-next (⊎-elim (λ l. omega (arith, first-late b from to l)) (λ l. l) (lt-or-le (firstRung b from to) to))
 
   pub search-refused : (x : Refusal) → quoteAt b from ≡ Refused x → End ≡ nextFrom b from to
   search-refused x e = no-next (omega (arith, first-unread b from to (quote-says b from (Refused x) e)))
@@ -99,23 +95,23 @@ module _ (b : List ℕ) (from to : ℕ) where
   unfolding nextFrom
   search-on e =
       let s = quote-says b from Nothing e in
-      rw (side-after b from to (s .0) (ltb-false (stepOn b from) allPrices (s .1)))
+      rw (side-after b from to (s .0) (ltb-false (tickOn b from) allPrices (s .1)))
 
--- a level stands: its place is that of its price, below the end since the end is where a stock's places begin
-pub search-found : (b : List ℕ) (from n place : ℕ) (l : Level) → from < firstOf n → quoteAt b from ≡ Stands l
-    → place ≡ onSide from (stepsTo (sideAt from) (l .price)) → At place l ≡ nextFrom b from (firstOf n)
+-- a level stands: its rung is that of its price, below the end since the end is where a stock's rungs begin
+pub search-found : (b : List ℕ) (from n rung : ℕ) (l : Level) → from < firstOf n → quoteAt b from ≡ Stands l
+    → rung ≡ onSide from (ticksTo (sideAt from) (l .price)) → At rung l ≡ nextFrom b from (firstOf n)
 unfolding levelAt
-search-found b from n place l h e at =
+search-found b from n rung l h e at =
     let k = wordsOf (length b) in
     let s = quote-says b from (Stands l) e in
-    let i = stepOn b from in
+    let i = tickOn b from in
     let m : i < allPrices = ltb-true i allPrices (s .1) in
     let price : l .price ≡ priceAt (sideAt from) i = ap (λ (x : Level). x .price) (s .2) in
-    let steps : stepsTo (sideAt from) (l .price) ≡ i = ap (stepsTo (sideAt from)) price ∙ steps-price (sideAt from) i m in
-    let here : place ≡ onSide from i = omega arith in
-    let same : place / allPrices ≡ from / allPrices = omega arith in
+    let ticks : ticksTo (sideAt from) (l .price) ≡ i = ap (ticksTo (sideAt from)) price ∙ ticks-price (sideAt from) i m in
+    let here : rung ≡ onSide from i = omega arith in
+    let same : rung / allPrices ≡ from / allPrices = omega arith in
     let small : onSide from i < firstOf n = omega arith in
-    let first : firstPlace b from (firstOf n) ≡ place = found-here b from (firstOf n) (s .0) m small ∙ sym here in
-    let at-step : stepAt place ≡ i = omega arith in
-    let there : levelThere b k place ≡ l = rw (same-locate from place same, same-side from place same, at-step) (sym (s .2)) in
+    let first : firstRung b from (firstOf n) ≡ rung = found-here b from (firstOf n) (s .0) m small ∙ sym here in
+    let at-tick : tickAt rung ≡ i = omega arith in
+    let there : levelThere b k rung ≡ l = rw (same-locate from rung same, same-side from rung same, at-tick) (sym (s .2)) in
     rw (first, there) at (some-next b from (firstOf n) (omega arith))

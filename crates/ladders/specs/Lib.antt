@@ -1,4 +1,4 @@
 pub mod Ladders
 pub mod Search
-pub mod PlaceLaws
+pub mod RungLaws
 pub mod LadderLaws

@@ -3,9 +3,9 @@ use Prim.Native.Nat.{ℕ}
 use mathlib.Core.Path.{_≡_}
 use mathlib.Core.List.{List, [], _∷_}
 use Rattle.fresh.specs.Fresh.{madeNumber, madeOf, freshOf}
-use Rattle.apply.specs.Apply.{After}
+use Rattle.apply.specs.Apply.{After, numberOf}
 use Rattle.symbol.specs.declared.Part.{Part}
-use Rattle.outcomes.specs.Outcomes.{numberOf, rowOf, orderRow}
+use Rattle.outcomes.specs.Outcomes.{rowOf, orderRow}
 
 -- the number r, and the tables d and b became d′ and b′
 pub record Freshens (d b : List ℕ) (r : ℕ) (d′ b′ : List ℕ) : Type 0 where

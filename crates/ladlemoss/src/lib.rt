@@ -5,7 +5,7 @@ ghost use Rattle.apply.specs.Apply.{applied};
 ghost use Rattle.census.specs.Census.{countAsked};
 ghost use Rattle.ladlemoss.specs.Face.{Answers, Freshens, partRow};
 ghost use Rattle.levels.specs.Levels.{bestOf, levelOf, nextOf};
-ghost use Rattle.numbers.specs.Shown.{number, row};
+ghost use Rattle.numbers.specs.Shown.{answerNumber, answerRow};
 ghost use Rattle.reader.specs.Read.{answer};
 ghost use Rattle.symbol.specs.Symbol.{symbolPart};
 ghost use Rattle.replies.specs.Replies.{accountNumber, accountRow, countNumber, countRow, levelRow, quoteNumber, quoteRow};
@@ -16,7 +16,7 @@ use kinds::Reference;
 // Reads one message: the result is 01's number, and the 18 numbers of its fields are left in out, all 0 for a refusal.
 #[no_mangle]
 pub extern "C" fn ladlemoss_read(bytes: &[u8], out: &mut [u64; 18]) -> u8
-    ensures { λ r. ⌜ (r ≡ number (answer (now (bytes .entry)))) × (now (out .exit) ≡ row (answer (now (bytes .entry)))) ⌝ }
+    ensures { λ r. ⌜ (r ≡ answerNumber (answer (now (bytes .entry)))) × (now (out .exit) ≡ answerRow (answer (now (bytes .entry)))) ⌝ }
 {
     numbers::write(reader::read(bytes), out)
 }
@@ -112,6 +112,6 @@ pub extern "C" fn ladlemoss_live(book: &[u64], out: &mut [u64; 1]) -> u8
 pub extern "C" fn ladlemoss_symbol(directory: &[u64], bytes: &[u8], out: &mut [u64; 2])
     ensures { λ _. ⌜ now (out .exit) ≡ partRow (symbolPart (now (directory .entry)) (now (bytes .entry))) ⌝ }
 {
-    let part = symbol::place(directory, bytes);
+    let part = symbol::part_of(directory, bytes);
     *out = [part.start as u64, part.len as u64];
 }

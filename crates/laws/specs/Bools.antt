@@ -15,6 +15,19 @@ unfolding fault
 fault-le true = omega arith
 fault-le false = omega arith
 
+pub fault-none : (b : Bool) → fault b ≡ 0 → b ≡ true
+unfolding fault
+fault-none true e = refl
+fault-none false e = absurd (omega arith)
+
+pub none-fault : (b : Bool) → b ≡ true → fault b ≡ 0
+unfolding fault
+none-fault b e = rw e
+
+pub some-fault : (b : Bool) → b ≡ false → fault b ≡ 1
+unfolding fault
+some-fault b e = rw e
+
 -- a test passes or fails
 pub cases : (b : Bool) → (b ≡ true) ⊎ (b ≡ false)
 cases true = inl refl

@@ -1,19 +1,19 @@
 -- The laws of a big-endian field, each for any width: a field of two fields side by side, its bound, and its last byte.
 -- Every reader of 1, 2, 4, 6 or 8 bytes cites `join`. Assumes nothing.
-use mathlib.Core.Path.{_≡_, refl, sym, ap, _∙_}
+use mathlib.Core.Path.{_≡_, sym}
 use mathlib.Core.List.{List}
-use Prim.Native.Nat.{ℕ, zero, suc, _+_, _*_, _/_, _%_, _^_, _≤_, _<_}
-use native.Mathlib.Nat.{add-zero, add-suc, add-assoc, pow-suc, mul-one, mul-assoc, zero-add}
+use Prim.Native.Nat.{ℕ, zero, suc, _+_, _*_, _^_, _<_}
+use native.Mathlib.Nat.{add-zero, add-suc, add-assoc, pow-suc, mul-assoc}
 use native.Mathlib.Omega.{arith}
 use lib.Dec.{lit<}
 use lib.Arith.{digits-lt}
 use lib.ListN.{getD}
-use Rattle.laws.specs.Field.{field, IsField}
+use Rattle.laws.specs.Field.{field}
 
 -- one byte
-pub one : (s : List ℕ) (at : ℕ) → field s at 1 ≡ getD s at 0
+pub field-one : (s : List ℕ) (at : ℕ) → field s at 1 ≡ getD s at 0
 unfolding field
-one s at = rw add-zero (omega arith)
+field-one s at = rw add-zero (omega arith)
 
 -- a field of m + n bytes is the first m and then the n that follow
 pub join : (s : List ℕ) (at m n : ℕ) → field s at (m + n) ≡ field s at m * 256 ^ n + field s (at + m) n
@@ -26,8 +26,8 @@ join s at m (suc n) =
     rw (add-suc, pow-suc, p) (rw (ih, e) (omega arith))
 
 -- two readings side by side are the reading of both
-pub joined : (s : List ℕ) (at m n a b : ℕ) → a ≡ field s at m → b ≡ field s (at + m) n → a * 256 ^ n + b ≡ field s at (m + n)
-joined s at m n a b p q = rw (p, q) (sym (join s at m n))
+pub field-joined : (s : List ℕ) (at m n a b : ℕ) → a ≡ field s at m → b ≡ field s (at + m) n → a * 256 ^ n + b ≡ field s at (m + n)
+field-joined s at m n a b p q = rw (p, q) (sym (join s at m n))
 
 -- a field of bytes fits its width
 pub field-lt : (s : List ℕ) (at w : ℕ) → ((i : ℕ) → getD s i 0 < 256) → field s at w < 256 ^ w

@@ -1,5 +1,6 @@
 pub mod Bit
 pub mod Bools
+pub mod Definitions
 pub mod Facts
 pub mod Field
 pub mod FieldLaws

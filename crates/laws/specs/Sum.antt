@@ -1,23 +1,14 @@
--- The sum of f over the numbers below n, and its laws. A count is the sum of 0s and 1s.
+-- The laws of a sum over the numbers below n.
 use mathlib.Core.Path.{_≡_, refl, sym, ap, ap₂, _∙_}
-use Prim.Native.Nat.{ℕ, zero, suc, _+_, _*_, _≤_, _<_, zero-le, suc-le-suc}
-use native.Mathlib.Nat.{le-refl, le-suc, lt-suc-self, le-trans, add-zero, add-suc, add-assoc, mul-suc, suc-mul, add-le-add, zero-mul}
-use native.Mathlib.Numerals.{add-one}
+use Prim.Native.Nat.{ℕ, zero, suc, _+_, _*_, _≤_, _<_, zero-le}
+use native.Mathlib.Nat.{le-suc, lt-suc-self, le-trans, add-zero, add-suc, add-assoc, suc-mul, add-le-add, zero-mul}
 use native.Mathlib.Nat.{not-suc-le-zero, lt-irrefl, le-of-suc-le-suc}
 use native.Mathlib.Decide.{ℕ-discrete}
 use mathlib.Core.Logic.{_≢_}
 use mathlib.Core.Path.{subst}
 use lib.Arith.{lt-of-le-ne}
 use native.Mathlib.Omega.{arith}
-
-unfoldable pub sumTo : (ℕ → ℕ) → ℕ → ℕ
-sumTo f zero = zero
-sumTo f (suc n) = sumTo f n + f n
-
--- one turn of a loop
-pub sum-more : (f : ℕ → ℕ) (n : ℕ) → sumTo f (n + 1) ≡ sumTo f n + f n
-unfolding sumTo
-sum-more f n = rw add-one
+use Rattle.laws.specs.Definitions.{sumTo}
 
 pub sum-ext : (f g : ℕ → ℕ) (n : ℕ) → ((i : ℕ) → i < n → f i ≡ g i) → sumTo f n ≡ sumTo g n
 unfolding sumTo

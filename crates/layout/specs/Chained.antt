@@ -63,21 +63,21 @@ printedFor [] t = 0
 printedFor (p ∷ ps) t = cond (eqb t (p .letter)) (p .bytes) (printedFor ps t)
 
 -- each row has the letter and the length that are printed at its place
-abbrev pub agree : List Row → List Printed → Bool
-agree [] [] = true
-agree [] (p ∷ ps) = false
-agree (r ∷ rs) [] = false
-agree (r ∷ rs) (p ∷ ps) = eqb (r .letter) (p .letter) && (eqb (lastEnd 0 (r .cells)) (p .bytes) && agree rs ps)
+abbrev pub rows-agree : List Row → List Printed → Bool
+rows-agree [] [] = true
+rows-agree [] (p ∷ ps) = false
+rows-agree (r ∷ rs) [] = false
+rows-agree (r ∷ rs) (p ∷ ps) = eqb (r .letter) (p .letter) && (eqb (lastEnd 0 (r .cells)) (p .bytes) && rows-agree rs ps)
 
-at-type : (rs : List Row) (ps : List Printed) → agree rs ps ≡ true → (t : ℕ) → lastEnd 0 (cellsIn rs t) ≡ printedFor ps t
+at-type : (rs : List Row) (ps : List Printed) → rows-agree rs ps ≡ true → (t : ℕ) → lastEnd 0 (cellsIn rs t) ≡ printedFor ps t
 at-type [] [] e t = refl
 at-type [] (p ∷ ps) e t = absurd (false≢true e)
 at-type (r ∷ rs) [] e t = absurd (false≢true e)
 at-type (r ∷ rs) (p ∷ ps) e t =
     let long = eqb (lastEnd 0 (r .cells)) (p .bytes) in
-    let tail : long && agree rs ps ≡ true = and-right (eqb (r .letter) (p .letter)) (long && agree rs ps) e in
-    let same : r .letter ≡ p .letter = eqb-true _ _ (and-left (eqb (r .letter) (p .letter)) (long && agree rs ps) e) in
-    rw same (go (eqb t (p .letter)) (eqb-true _ _ (and-left long (agree rs ps) tail)) (at-type rs ps (and-right long (agree rs ps) tail) t))
+    let tail : long && rows-agree rs ps ≡ true = and-right (eqb (r .letter) (p .letter)) (long && rows-agree rs ps) e in
+    let same : r .letter ≡ p .letter = eqb-true _ _ (and-left (eqb (r .letter) (p .letter)) (long && rows-agree rs ps) e) in
+    rw same (go (eqb t (p .letter)) (eqb-true _ _ (and-left long (rows-agree rs ps) tail)) (at-type rs ps (and-right long (rows-agree rs ps) tail) t))
   where
     go : (b : Bool) → lastEnd 0 (r .cells) ≡ p .bytes → lastEnd 0 (cellsIn rs t) ≡ printedFor ps t → lastEnd 0 (cond b (r .cells) (cellsIn rs t)) ≡ cond b (p .bytes) (printedFor ps t)
     go true x y = x

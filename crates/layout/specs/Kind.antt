@@ -11,7 +11,7 @@ pub data Kind : Type 0 where
   -- a Price with 4 decimal places, and one with 8
   price4 price8 : Kind
   -- a Stock, an MPID or an Attribution
-  text : Kind
+  texts : Kind
   -- the Buy/Sell Indicator, and Printable
   side printable : Kind
   -- one letter of a list that 000 prints whole

@@ -8,8 +8,9 @@ use native.Mathlib.Omega.{arith}
 use lib.Dec.{eqb}
 use lib.ListN.{length}
 use borrow.Author.Tests.{eq-eqb, ne-eqb, eqb-true, eqb-false}
-use Rattle.messages.specs.declared.Refusal.{Refusal}
-use Rattle.wellformed.specs.WellFormed.{goodSide}
+use Rattle.refusals.specs.declared.Refusal.{Refusal}
+use Rattle.refusals.specs.Refusals.{BOOK, FIELD, SHAPE, refusalOf}
+use Rattle.kinds.specs.Sides.{goodSide}
 use Rattle.book.specs.Book.{wordsOf}
 use Rattle.levels.specs.declared.Wanted.{Wanted}
 use Rattle.levels.specs.declared.Best.{Best}
@@ -20,50 +21,50 @@ use Rattle.levels.specs.declared.Asked.the-variants as ask
 use Rattle.levels.specs.declared.Quote.{Quote}
 use Rattle.levels.specs.declared.Quote.the-variants as quote
 use Rattle.levels.specs.Totals.{total}
-use Rattle.levels.specs.Levels.{unsoundness, allPrices, refused, checked}
+use Rattle.levels.specs.Levels.{unsoundness, allPrices, noQuote, checked}
 use Rattle.levels.specs.Visits.{visited}
 use Rattle.levels.specs.Seen.{bestIn, pass-unsound, pass-seen}
 
 abbrev pub refusing : ℕ → Asked
-refusing n = ask.Refused (record { number = n })
+refusing n = ask.Refused (refusalOf n)
 
-abbrev pub answered : Pass → Asked
-answered pass.Unsound = refusing 13
-answered (pass.Seen best) = ask.Answered best
+abbrev pub passReply : Pass → Asked
+passReply pass.Unsound = refusing BOOK
+passReply (pass.Seen best) = ask.Answered best
 
 -- by the tests of the book and of the side
 abbrev asking : Bool → Bool → Pass → Asked
-asking t u p = cond t (refusing 14) (cond u (answered p) (refusing 4))
+asking t u p = cond t (refusing SHAPE) (cond u (passReply p) (refusing FIELD))
 
-unfoldable pub asked : Wanted → List ℕ → ℕ → Asked
-asked w b byte = asking (eqb (wordsOf (length b)) 0) (goodSide byte) (visited w b (wordsOf (length b)) (64 * wordsOf (length b)))
+unfoldable pub scanned : Wanted → List ℕ → ℕ → Asked
+scanned w b byte = asking (eqb (wordsOf (length b)) 0) (goodSide byte) (visited w b (wordsOf (length b)) (64 * wordsOf (length b)))
 
 -- ---- the ways that asking goes
 
-pub no-book : (w : Wanted) (b : List ℕ) (byte : ℕ) → wordsOf (length b) ≡ 0 → refusing 14 ≡ asked w b byte
-unfolding asked
+pub no-book : (w : Wanted) (b : List ℕ) (byte : ℕ) → wordsOf (length b) ≡ 0 → refusing SHAPE ≡ scanned w b byte
+unfolding scanned
 no-book w b byte e = rw (eq-eqb (wordsOf (length b)) 0 e)
 
 module _ (w : Wanted) (b : List ℕ) (byte k : ℕ) (e : k ≡ wordsOf (length b)) (n : k ≡ 0 → ⊥) where
-  pub no-side : goodSide byte ≡ false → refusing 4 ≡ asked w b byte
-  unfolding asked
+  pub no-side : goodSide byte ≡ false → refusing FIELD ≡ scanned w b byte
+  unfolding scanned
   no-side g = rw (← e) (rw (ne-eqb k 0 n, g))
 
-  passed : goodSide byte ≡ true → (p : Pass) → visited w b k (64 * k) ≡ p → answered p ≡ asked w b byte
-  unfolding asked
+  passed : goodSide byte ≡ true → (p : Pass) → visited w b k (64 * k) ≡ p → passReply p ≡ scanned w b byte
+  unfolding scanned
   passed g p q = rw (← e) (rw (ne-eqb k 0 n, g, q))
 
-  pub asked-unsound : goodSide byte ≡ true → visited w b k (64 * k) ≡ pass.Unsound → refusing 13 ≡ asked w b byte
+  pub asked-unsound : goodSide byte ≡ true → visited w b k (64 * k) ≡ pass.Unsound → refusing BOOK ≡ scanned w b byte
   asked-unsound g q = passed g pass.Unsound q
 
-  pub asked-seen : goodSide byte ≡ true → (x : Best) → visited w b k (64 * k) ≡ pass.Seen x → ask.Answered x ≡ asked w b byte
+  pub asked-seen : goodSide byte ≡ true → (x : Best) → visited w b k (64 * k) ≡ pass.Seen x → ask.Answered x ≡ scanned w b byte
   asked-seen g x q = passed g (pass.Seen x) q
 
 -- ---- from what was asked to the answer
 
 -- a question's answer, by the tests of the book, of the side and of the slots
 abbrev deciding : Bool → Bool → Bool → Quote → Quote
-deciding t u v q = cond t (refused 14) (cond u (cond v q (refused 13)) (refused 4))
+deciding t u v q = cond t (noQuote SHAPE) (cond u (cond v q (noQuote BOOK)) (noQuote FIELD))
 
 -- a pass that saw y where the slots are sound, and else stopped
 module _ (v : Bool) (p : Pass) (y : Best) (fine : v ≡ true → p ≡ pass.Seen y) (foul : v ≡ false → p ≡ pass.Unsound) where
@@ -72,18 +73,18 @@ module _ (v : Bool) (p : Pass) (y : Best) (fine : v ≡ true → p ≡ pass.Seen
   refused-by false false x q e = cc
   refused-by false true x q e = go v refl
     where
-      go : (z : Bool) → v ≡ z → quote.Refused x ≡ cond z q (refused 13)
-      go true h = let a = sym (ap answered (fine h)) ∙ e in let n : _≡_ {A = ℕ} 0 1 = cc in absurd (omega arith)
-      go false h = let a = sym (ap answered (foul h)) ∙ e in cc
+      go : (z : Bool) → v ≡ z → quote.Refused x ≡ cond z q (noQuote BOOK)
+      go true h = let a = sym (ap passReply (fine h)) ∙ e in let n : _≡_ {A = ℕ} 0 1 = cc in absurd (omega arith)
+      go false h = let a = sym (ap passReply (foul h)) ∙ e in cc
 
   answered-by : (t u : Bool) (x : Best) → asking t u p ≡ ask.Answered x → ((q : Quote) → deciding t u v q ≡ q) × (x ≡ y)
   answered-by true u x e = let n : _≡_ {A = ℕ} 0 1 = cc in absurd (omega arith)
   answered-by false false x e = let n : _≡_ {A = ℕ} 0 1 = cc in absurd (omega arith)
   answered-by false true x e = go v refl
     where
-      go : (z : Bool) → v ≡ z → ((q : Quote) → cond z q (refused 13) ≡ q) × (x ≡ y)
-      go true h = let a = sym (ap answered (fine h)) ∙ e in ((λ q. refl), cc)
-      go false h = let a = sym (ap answered (foul h)) ∙ e in let n : _≡_ {A = ℕ} 0 1 = cc in absurd (omega arith)
+      go : (z : Bool) → v ≡ z → ((q : Quote) → cond z q (noQuote BOOK) ≡ q) × (x ≡ y)
+      go true h = let a = sym (ap passReply (fine h)) ∙ e in ((λ q. refl), cc)
+      go false h = let a = sym (ap passReply (foul h)) ∙ e in let n : _≡_ {A = ℕ} 0 1 = cc in absurd (omega arith)
 
 module _ (w : Wanted) (b : List ℕ) (byte : ℕ) (l : w .to ≤ allPrices) where
   fine : (k : ℕ) → eqb (total unsoundness b k) 0 ≡ true → visited w b k (64 * k) ≡ pass.Seen (bestIn w b k)
@@ -93,15 +94,15 @@ module _ (w : Wanted) (b : List ℕ) (byte : ℕ) (l : w .to ≤ allPrices) wher
   foul k h = pass-unsound w b k (eqb-false (total unsoundness b k) 0 h)
 
   -- a refusal is the question's
-  pub ask-refused : (x : Refusal) (q : Quote) → asked w b byte ≡ ask.Refused x → quote.Refused x ≡ checked b byte q
-  unfolding asked
+  pub ask-refused : (x : Refusal) (q : Quote) → scanned w b byte ≡ ask.Refused x → quote.Refused x ≡ checked b byte q
+  unfolding scanned
   ask-refused x q e =
       let k = wordsOf (length b) in
       refused-by (eqb (total unsoundness b k) 0) (visited w b k (64 * k)) (bestIn w b k) (fine k) (foul k) (eqb k 0) (goodSide byte) x q e
 
   -- an answer: nothing is refused, and what was seen is what stands
-  pub ask-answered : (x : Best) → asked w b byte ≡ ask.Answered x → ((q : Quote) → checked b byte q ≡ q) × (x ≡ bestIn w b (wordsOf (length b)))
-  unfolding asked
+  pub ask-answered : (x : Best) → scanned w b byte ≡ ask.Answered x → ((q : Quote) → checked b byte q ≡ q) × (x ≡ bestIn w b (wordsOf (length b)))
+  unfolding scanned
   ask-answered x e =
       let k = wordsOf (length b) in
       answered-by (eqb (total unsoundness b k) 0) (visited w b k (64 * k)) (bestIn w b k) (fine k) (foul k) (eqb k 0) (goodSide byte) x e

@@ -6,11 +6,11 @@ use mathlib.Core.Bool.{Bool, true, false, cond, _&&_}
 use mathlib.Core.List.{List}
 use lib.Dec.{eqb, leb, ltb}
 use lib.ListN.{length}
-use Rattle.laws.specs.Least.{least}
+use Rattle.laws.specs.Definitions.{least}
+use Rattle.refusals.specs.Refusals.{BOOK, FIELD, SHAPE, refusalOf}
 use Rattle.kinds.specs.declared.Side.{Side}
 use Rattle.kinds.specs.declared.Side.the-variants.{Buy, Sell}
-use Rattle.messages.specs.Typed.{sideOf}
-use Rattle.wellformed.specs.WellFormed.{goodSide}
+use Rattle.kinds.specs.Sides.{sideOf, goodSide}
 use Rattle.book.specs.Book.{wordsOf}
 use Rattle.orders.specs.declared.Order.{Order}
 use Rattle.orders.specs.declared.Held.{Held}
@@ -61,39 +61,39 @@ levelAt b k locate side price = record {
 abbrev pub allPrices : ℕ
 allPrices = 4294967296
 
--- the price i steps from the best one possible: the highest for buys, the lowest for sells
+-- the price i ticks from the best one possible: the highest for buys, the lowest for sells
 abbrev pub priceAt : Side → ℕ → ℕ
 priceAt Buy i = 4294967295 - i
 priceAt Sell i = i
 
--- how many steps a price is from the best one possible
-abbrev pub stepsTo : Side → ℕ → ℕ
-stepsTo Buy price = 4294967295 - price
-stepsTo Sell price = price
+-- how many ticks a price is from the best one possible
+abbrev pub ticksTo : Side → ℕ → ℕ
+ticksTo Buy price = 4294967295 - price
+ticksTo Sell price = price
 
 unfoldable pub someAt : List ℕ → ℕ → ℕ → Side → ℕ → Bool
 someAt b k locate side i = ltb 0 (total (ordersAt locate side (priceAt side i)) b k)
 
--- the first step not before `from` and below `to` at which an order stands; `to` where there is none
-unfoldable pub firstStep : List ℕ → ℕ → ℕ → Side → ℕ → ℕ → ℕ
-firstStep b k locate side from to = least (λ i. leb from i && someAt b k locate side i) to
+-- the first tick not before `from` and below `to` at which an order stands; `to` where there is none
+unfoldable pub firstTick : List ℕ → ℕ → ℕ → Side → ℕ → ℕ → ℕ
+firstTick b k locate side from to = least (λ i. leb from i && someAt b k locate side i) to
 
--- the best level not before the step `from`, or none
+-- the best level not before the tick `from`, or none
 unfoldable pub standing : List ℕ → ℕ → ℕ → Side → ℕ → Quote
 standing b k locate side from =
-    cond (ltb (firstStep b k locate side from allPrices) allPrices)
-    (Stands (levelAt b k locate side (priceAt side (firstStep b k locate side from allPrices)))) Nothing
+    cond (ltb (firstTick b k locate side from allPrices) allPrices)
+    (Stands (levelAt b k locate side (priceAt side (firstTick b k locate side from allPrices)))) Nothing
 
 -- ---- the questions
 
-abbrev pub refused : ℕ → Quote
-refused n = Refused (record { number = n })
+abbrev pub noQuote : ℕ → Quote
+noQuote n = Refused (refusalOf n)
 
 -- 14, then 4 for a side that is neither B nor S, then 13 if any live slot of the book is unsound; else the answer
 abbrev pub checked : List ℕ → ℕ → Quote → Quote
 checked b byte quote =
-    cond (eqb (wordsOf (length b)) 0) (refused 14)
-    (cond (goodSide byte) (cond (eqb (total unsoundness b (wordsOf (length b))) 0) quote (refused 13)) (refused 4))
+    cond (eqb (wordsOf (length b)) 0) (noQuote SHAPE)
+    (cond (goodSide byte) (cond (eqb (total unsoundness b (wordsOf (length b))) 0) quote (noQuote BOOK)) (noQuote FIELD))
 
 -- total and count of a level; none there is 0 and 0, an answer
 unfoldable pub levelOf : List ℕ → ℕ → ℕ → ℕ → Quote
@@ -105,4 +105,4 @@ bestOf b locate byte = checked b byte (standing b (wordsOf (length b)) locate (s
 
 -- the next level worse than a price, which need not be a level itself
 unfoldable pub nextOf : List ℕ → ℕ → ℕ → ℕ → Quote
-nextOf b locate byte price = checked b byte (standing b (wordsOf (length b)) locate (sideOf byte) (stepsTo (sideOf byte) price + 1))
+nextOf b locate byte price = checked b byte (standing b (wordsOf (length b)) locate (sideOf byte) (ticksTo (sideOf byte) price + 1))

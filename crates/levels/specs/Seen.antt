@@ -1,4 +1,4 @@
--- What a whole pass saw is what the definitions say: the first step at which an order stands, with the totals there, or that some
+-- What a whole pass saw is what the definitions say: the first tick at which an order stands, with the totals there, or that some
 -- live slot is unsound. Assumes nothing.
 use mathlib.Core.Path.{_≡_, refl, sym, ap, _∙_}
 use mathlib.Core.Bool.{Bool, true, false, cond, _&&_}
@@ -15,22 +15,22 @@ use Rattle.orders.specs.declared.Order.{Order}
 use Rattle.orders.specs.declared.Held.{Held}
 use Rattle.orders.specs.declared.Held.the-variants.{Sound, Unsound}
 use Rattle.orders.specs.Order.{remaining}
-use Rattle.decide.specs.Stored.{heldAt}
+use Rattle.slots.specs.Stored.{heldAt}
 use Rattle.levels.specs.declared.Wanted.{Wanted}
 use Rattle.levels.specs.declared.Best.{Best}
 use Rattle.levels.specs.declared.Pass.{Pass}
 use Rattle.levels.specs.declared.Pass.the-variants as pass
 use Rattle.levels.specs.Totals.{total}
-use Rattle.levels.specs.TotalLaws.{Whole, Kept, kept, total-ext, none-total}
-use Rattle.levels.specs.Levels.{sameSide, standsAt, sharesAt, ordersAt, unsoundness, allPrices, priceAt, stepsTo, firstStep}
-use Rattle.levels.specs.Meaning.{steps-price, price-steps, first-le, first-is, stands-first, stands-none, no-orders}
+use Rattle.levels.specs.TotalLaws.{Whole, Kept, held-kept, total-ext, none-total}
+use Rattle.levels.specs.Levels.{sameSide, standsAt, sharesAt, ordersAt, unsoundness, allPrices, priceAt, ticksTo, firstTick}
+use Rattle.levels.specs.Meaning.{ticks-price, price-ticks, first-le, first-is, stands-first, stands-none, no-orders}
 use Rattle.levels.specs.Visits.{isWanted, visited}
 use Rattle.levels.specs.Tally.{away, wantedAt, ofWanted, BestBy, wanted-inside, Sees, sees}
-use Rattle.levels.specs.Tally.Sees.{broken, whole}
+use Rattle.levels.specs.Tally.Sees.{saw-unsound, saw-sound}
 
 -- ---- in the definitions' words
 
--- the shares and the orders that stand at the step i
+-- the shares and the orders that stand at the tick i
 abbrev pub sharesOn : Wanted → List ℕ → ℕ → ℕ → ℕ
 sharesOn w b k i = total (sharesAt (w .locate .0) (w .side) (priceAt (w .side) i)) b k
 
@@ -38,28 +38,28 @@ abbrev pub ordersOn : Wanted → List ℕ → ℕ → ℕ → ℕ
 ordersOn w b k i = total (ordersAt (w .locate .0) (w .side) (priceAt (w .side) i)) b k
 
 abbrev pub firstIn : Wanted → List ℕ → ℕ → ℕ
-firstIn w b k = firstStep b k (w .locate .0) (w .side) (w .from) (w .to)
+firstIn w b k = firstTick b k (w .locate .0) (w .side) (w .from) (w .to)
 
 -- what the whole pass saw
 abbrev pub bestIn : Wanted → List ℕ → ℕ → Best
 bestIn w b k = record {
-  steps = firstIn w b k;
+  ticks = firstIn w b k;
   shares = cond (ltb (firstIn w b k) (w .to)) (sharesOn w b k (firstIn w b k)) 0;
   orders = cond (ltb (firstIn w b k) (w .to)) (ordersOn w b k (firstIn w b k)) 0;
 }
 
--- ---- what is wanted at a step, and what stands at its price
+-- ---- what is wanted at a tick, and what stands at its price
 
 and-true : (a : Bool) → (a && true) ≡ a
 and-true true = refl
 and-true false = refl
 
--- a price is i steps away where it is the price at i
-same-price : (side : Side) (p i : ℕ) → p < allPrices → i < allPrices → eqb (stepsTo side p) i ≡ eqb p (priceAt side i)
+-- a price is i ticks away where it is the price at i
+same-price : (side : Side) (p i : ℕ) → p < allPrices → i < allPrices → eqb (ticksTo side p) i ≡ eqb p (priceAt side i)
 same-price side p i l m = ⊎-elim
-    (λ (e : stepsTo side p ≡ i). eq-eqb _ _ e ∙ sym (eq-eqb _ _ (sym (price-steps side p l) ∙ ap (priceAt side) e)))
-    (λ (d : stepsTo side p ≡ i → ⊥). ne-eqb _ _ d ∙ sym (ne-eqb _ _ (λ e. d (ap (stepsTo side) e ∙ steps-price side i m))))
-    (same-or (stepsTo side p) i)
+    (λ (e : ticksTo side p ≡ i). eq-eqb _ _ e ∙ sym (eq-eqb _ _ (sym (price-ticks side p l) ∙ ap (priceAt side) e)))
+    (λ (d : ticksTo side p ≡ i → ⊥). ne-eqb _ _ d ∙ sym (ne-eqb _ _ (λ e. d (ap (ticksTo side) e ∙ ticks-price side i m))))
+    (same-or (ticksTo side p) i)
 
 module _ (w : Wanted) (most : w .to ≤ allPrices) (i : ℕ) (late : w .from ≤ i) (early : i < w .to) where
   wanted-stands : (o : Order) → Whole o → wantedAt w i o ≡ standsAt (w .locate .0) (w .side) (priceAt (w .side) i) o
@@ -75,11 +75,11 @@ module _ (w : Wanted) (most : w .to ≤ allPrices) (i : ℕ) (late : w .from ≤
           rw (le-leb (w .from) (away w o) (omega arith), lt-ltb (away w o) (w .to) (omega arith)) (simp and-true)
       go false e = simp and-false
 
-  -- the totals of what is wanted at a step are those of its level
+  -- the totals of what is wanted at a tick are those of its level
   level-total : (f : Order → ℕ) (g : Held → ℕ) (b : List ℕ) (k : ℕ)
       → ((o : Order) → cond (standsAt (w .locate .0) (w .side) (priceAt (w .side) i) o) (f o) 0 ≡ g (Sound o)) → 0 ≡ g Unsound
       → total (ofWanted w f i) b k ≡ total g b k
-  level-total f g b k sound unsound = total-ext (ofWanted w f i) g b k λ s l a. go (heldAt b k s) (kept b k s)
+  level-total f g b k sound unsound = total-ext (ofWanted w f i) g b k λ s l a. go (heldAt b k s) (held-kept b k s)
     where
       go : (h : Held) → Kept h → ofWanted w f i h ≡ g h
       go (Sound o) h = ap (λ (c : Bool). cond c (f o) 0) (wanted-stands o h) ∙ sound o
@@ -105,30 +105,30 @@ none-at-end w f b k = none-total (ofWanted w f (w .to)) b k λ s l a. go (heldAt
 
 -- ---- the best of a whole pass
 
-same-best : (x y : Best) → x .steps ≡ y .steps → x .shares ≡ y .shares → x .orders ≡ y .orders → x ≡ y
-same-best x y p q r = λ i. record { steps = p i; shares = q i; orders = r i }
+same-best : (x y : Best) → x .ticks ≡ y .ticks → x .shares ≡ y .shares → x .orders ≡ y .orders → x ≡ y
+same-best x y p q r = λ i. record { ticks = p i; shares = q i; orders = r i }
 
 best-is : (w : Wanted) (b : List ℕ) (k : ℕ) (x : Best) → w .to ≤ allPrices → BestBy w (λ f. total f b k) x → x ≡ bestIn w b k
 best-is w b k x most l =
-    let c = go (ltb (x .steps) (w .to)) refl in
+    let c = go (ltb (x .ticks) (w .to)) refl in
     same-best x (bestIn w b k) first (rw (← first) (c .0)) (rw (← first) (c .1))
   where
-    first : x .steps ≡ firstIn w b k
+    first : x .ticks ≡ firstIn w b k
     first =
         sym
-        (first-is b k (w .locate .0) (w .side) (w .from) (w .to) (x .steps) (l .most)
+        (first-is b k (w .locate .0) (w .side) (w .from) (w .to) (x .ticks) (l .most)
         (λ j late m. sym (orders-on w most j late (omega arith) b k) ∙ l .before j m .1)
-        (λ m. (l .here m .0, omega (arith, orders-on w most (x .steps) (l .here m .0) m b k, l .here m .1))))
+        (λ m. (l .here m .0, omega (arith, orders-on w most (x .ticks) (l .here m .0) m b k, l .here m .1))))
 
-    go : (c : Bool) → ltb (x .steps) (w .to) ≡ c
-        → (x .shares ≡ cond c (sharesOn w b k (x .steps)) 0) × (x .orders ≡ cond c (ordersOn w b k (x .steps)) 0)
+    go : (c : Bool) → ltb (x .ticks) (w .to) ≡ c
+        → (x .shares ≡ cond c (sharesOn w b k (x .ticks)) 0) × (x .orders ≡ cond c (ordersOn w b k (x .ticks)) 0)
     go true e =
-        let m = ltb-true (x .steps) (w .to) e in
+        let m = ltb-true (x .ticks) (w .to) e in
         let late = l .here m .0 in
-        (l .shares ∙ shares-on w most (x .steps) late m b k, l .orders ∙ orders-on w most (x .steps) late m b k)
+        (l .shares ∙ shares-on w most (x .ticks) late m b k, l .orders ∙ orders-on w most (x .ticks) late m b k)
     go false e =
-        let m = ltb-false (x .steps) (w .to) e in
-        let end : x .steps ≡ w .to = omega (arith, l .most) in
+        let m = ltb-false (x .ticks) (w .to) e in
+        let end : x .ticks ≡ w .to = omega (arith, l .most) in
         (l .shares ∙ rw end (none-at-end w remaining b k), l .orders ∙ rw end (none-at-end w (λ o. 1) b k))
 
 -- ---- the pass
@@ -141,43 +141,27 @@ pub pass-unsound : (w : Wanted) (b : List ℕ) (k : ℕ) → (total unsoundness 
 pass-unsound w b k n = go (whole-pass w b k)
   where
     go : {p : Pass} → Sees w (λ f. total f b k) p → p ≡ pass.Unsound
-    go (broken h) = refl
-    go (whole x z l) = absurd (n z)
+    go (saw-unsound h) = refl
+    go (saw-sound x z l) = absurd (n z)
 
 pub pass-seen : (w : Wanted) (b : List ℕ) (k : ℕ) → w .to ≤ allPrices → total unsoundness b k ≡ 0
     → visited w b k (64 * k) ≡ pass.Seen (bestIn w b k)
 pass-seen w b k most z = go (whole-pass w b k)
   where
     go : {p : Pass} → Sees w (λ f. total f b k) p → p ≡ pass.Seen (bestIn w b k)
-    go (broken h) = absurd (omega arith)
-    go (whole x z l) = ap pass.Seen (best-is w b k x most l)
+    go (saw-unsound h) = absurd (omega arith)
+    go (saw-sound x z l) = ap pass.Seen (best-is w b k x most l)
 
--- and both ways back
-pub unsound-pass : (w : Wanted) (b : List ℕ) (k : ℕ) → visited w b k (64 * k) ≡ pass.Unsound → total unsoundness b k ≡ 0 → ⊥
-unsound-pass w b k e z = go (whole-pass w b k) e
-  where
-    go : {p : Pass} → Sees w (λ f. total f b k) p → p ≡ pass.Unsound → ⊥
-    go (broken h) e = omega arith
-    go (whole x z l) e = let n : _≡_ {A = ℕ} 0 1 = cc in omega arith
-
-pub seen-pass : (w : Wanted) (b : List ℕ) (k : ℕ) (x : Best) → w .to ≤ allPrices → visited w b k (64 * k) ≡ pass.Seen x
-    → (total unsoundness b k ≡ 0) × (x ≡ bestIn w b k)
-seen-pass w b k x most = go (whole-pass w b k)
-  where
-    go : {p : Pass} → Sees w (λ f. total f b k) p → p ≡ pass.Seen x → (total unsoundness b k ≡ 0) × (x ≡ bestIn w b k)
-    go (broken h) e = let n : _≡_ {A = ℕ} 0 1 = cc in absurd (omega arith)
-    go (whole y z l) e = let q : x ≡ y = cc in (z, q ∙ best-is w b k y most l)
-
--- ---- one step alone
+-- ---- one tick alone
 
 -- whether an order stands there or none
-pub one-step : (w : Wanted) (b : List ℕ) (k p : ℕ) → p < allPrices → w .from ≡ stepsTo (w .side) p → w .to ≡ w .from + 1
+pub one-tick : (w : Wanted) (b : List ℕ) (k p : ℕ) → p < allPrices → w .from ≡ ticksTo (w .side) p → w .to ≡ w .from + 1
     → (bestIn w b k .shares ≡ total (sharesAt (w .locate .0) (w .side) p) b k)
     × (bestIn w b k .orders ≡ total (ordersAt (w .locate .0) (w .side) p) b k)
-one-step w b k p small start end = go (ltb (firstIn w b k) (w .to)) refl
+one-tick w b k p small start end = go (ltb (firstIn w b k) (w .to)) refl
   where
     back : priceAt (w .side) (w .from) ≡ p
-    back = ap (priceAt (w .side)) start ∙ price-steps (w .side) p small
+    back = ap (priceAt (w .side)) start ∙ price-ticks (w .side) p small
 
     go : (c : Bool) → ltb (firstIn w b k) (w .to) ≡ c
         → (cond c (sharesOn w b k (firstIn w b k)) 0 ≡ total (sharesAt (w .locate .0) (w .side) p) b k)

@@ -10,12 +10,13 @@ use lib.Bits.{bitAnd}
 use lib.Count.{trailingZeros}
 use lib.ListN.{getD}
 use lib.Pow.{pow-pos}
-use Rattle.laws.specs.Bit.{bit, bit-of-zero, trailing-zero, trailing-one, trailing-lt, and-pred, clear-same, clear-other, pow-le}
+use Rattle.laws.specs.Bit.{bit-of-zero, trailing-zero, trailing-one, trailing-lt, and-pred, clear-same, clear-other, pow-le}
 use Rattle.laws.specs.Least.{same-or, lt-or-le}
+use Rattle.laws.specs.Definitions.{bit}
 use Rattle.book.specs.Book.{live}
 use Rattle.book.specs.Words.{live-word}
 use Rattle.orders.specs.declared.Held.the-variants.{Unsound}
-use Rattle.decide.specs.Stored.{heldAt}
+use Rattle.slots.specs.Stored.{heldAt}
 use Rattle.levels.specs.declared.Wanted.{Wanted}
 use Rattle.levels.specs.declared.Best.{Best}
 use Rattle.levels.specs.declared.Pass.the-variants as pass

@@ -9,53 +9,53 @@ use native.Mathlib.Omega.{arith}
 use lib.Dec.{eqb, leb, ltb}
 use borrow.Author.Tests.{eq-eqb, ne-eqb, eqb-true, eqb-false, ltb-true, ltb-false, leb-true}
 use Rattle.laws.specs.Bools.{and-left, and-right, and-both}
-use Rattle.laws.specs.Sum.{sumTo}
+use Rattle.laws.specs.Definitions.{sumTo}
 use Rattle.orders.specs.declared.Order.{Order}
 use Rattle.orders.specs.declared.Held.{Held}
 use Rattle.orders.specs.declared.Held.the-variants.{Sound, Unsound}
 use Rattle.orders.specs.Order.{remaining}
-use Rattle.decide.specs.Stored.{heldAt}
+use Rattle.slots.specs.Stored.{heldAt}
 use Rattle.levels.specs.declared.Wanted.{Wanted}
 use Rattle.levels.specs.declared.Best.{Best}
 use Rattle.levels.specs.declared.Pass.{Pass}
 use Rattle.levels.specs.declared.Pass.the-variants as pass
-use Rattle.levels.specs.Levels.{sameSide, unsoundness, stepsTo}
+use Rattle.levels.specs.Levels.{sameSide, unsoundness, ticksTo}
 use Rattle.levels.specs.Totals.{weighed}
 use Rattle.levels.specs.TotalLaws.{live-cases, more-free, more-live}
 use Rattle.levels.specs.Visits.{isWanted, joined, considered, seen, visited}
 
 -- ---- the best of a tally
 
--- x leads the tally of shares S and orders C at each step: the first step below `to` with an order, or `to`
+-- x leads the tally of shares S and orders C at each tick: the first tick below `to` with an order, or `to`
 pub record Leads (S C : ℕ → ℕ) (from to : ℕ) (x : Best) : Type 0 where
-  pub most : x .steps ≤ to
-  pub shares : x .shares ≡ S (x .steps)
-  pub orders : x .orders ≡ C (x .steps)
-  pub here : x .steps < to → (from ≤ x .steps) × (0 < C (x .steps))
-  pub before : (j : ℕ) → j < x .steps → (S j ≡ 0) × (C j ≡ 0)
+  pub most : x .ticks ≤ to
+  pub shares : x .shares ≡ S (x .ticks)
+  pub orders : x .orders ≡ C (x .ticks)
+  pub here : x .ticks < to → (from ≤ x .ticks) × (0 < C (x .ticks))
+  pub before : (j : ℕ) → j < x .ticks → (S j ≡ 0) × (C j ≡ 0)
 
--- S′ is S with r more at the step t
+-- S′ is S with r more at the tick t
 record Adds (S S′ : ℕ → ℕ) (t r : ℕ) : Type 0 where
   own : S′ t ≡ S t + r
   other : (j : ℕ) → t ≢ j → S′ j ≡ S j
 
--- one that is the same at each step has the same best
+-- one that is the same at each tick has the same best
 stays : {S S′ C C′ : ℕ → ℕ} {from to : ℕ} {x : Best} → ((i : ℕ) → S′ i ≡ S i) → ((i : ℕ) → C′ i ≡ C i)
     → Leads S C from to x → Leads S′ C′ from to x
 stays {x = x} p q l = record {
   most = l .most;
-  shares = l .shares ∙ sym (p (x .steps));
-  orders = l .orders ∙ sym (q (x .steps));
-  here = λ h. (l .here h .0, omega (arith, q (x .steps), l .here h .1));
+  shares = l .shares ∙ sym (p (x .ticks));
+  orders = l .orders ∙ sym (q (x .ticks));
+  here = λ h. (l .here h .0, omega (arith, q (x .ticks), l .here h .1));
   before = λ j h. (p j ∙ l .before j h .0, q j ∙ l .before j h .1);
 }
 
 module _ {S S′ C C′ : ℕ → ℕ} {from to t r : ℕ} {x : Best} (late : from ≤ t) (early : t < to)
     (p : Adds S S′ t r) (q : Adds C C′ t 1) (l : Leads S C from to x) where
-  none-still : (j : ℕ) → t ≢ j → j < x .steps → (S′ j ≡ 0) × (C′ j ≡ 0)
+  none-still : (j : ℕ) → t ≢ j → j < x .ticks → (S′ j ≡ 0) × (C′ j ≡ 0)
   none-still j d m = (p .other j d ∙ l .before j m .0, q .other j d ∙ l .before j m .1)
 
-  better : t < x .steps → Leads S′ C′ from to (record { steps = t; shares = r; orders = 1 })
+  better : t < x .ticks → Leads S′ C′ from to (record { ticks = t; shares = r; orders = 1 })
   better h = record {
     most = omega arith;
     shares = omega (arith, p .own, l .before t h .0);
@@ -64,7 +64,7 @@ module _ {S S′ C C′ : ℕ → ℕ} {from to t r : ℕ} {x : Best} (late : fr
     before = λ j m. none-still j (λ e. omega arith) (omega arith);
   }
 
-  as-good : t ≡ x .steps → Leads S′ C′ from to (record { steps = t; shares = x .shares + r; orders = x .orders + 1 })
+  as-good : t ≡ x .ticks → Leads S′ C′ from to (record { ticks = t; shares = x .shares + r; orders = x .orders + 1 })
   as-good e = record {
     most = omega arith;
     shares = rw (l .shares, ← e, p .own);
@@ -73,35 +73,35 @@ module _ {S S′ C C′ : ℕ → ℕ} {from to t r : ℕ} {x : Best} (late : fr
     before = λ j m. none-still j (λ e. omega arith) (omega arith);
   }
 
-  worse : x .steps < t → Leads S′ C′ from to x
+  worse : x .ticks < t → Leads S′ C′ from to x
   worse h =
-      let d : t ≢ x .steps = λ e. omega arith in
+      let d : t ≢ x .ticks = λ e. omega arith in
       record {
         most = l .most;
-        shares = l .shares ∙ sym (p .other (x .steps) d);
-        orders = l .orders ∙ sym (q .other (x .steps) d);
-        here = λ m. (l .here m .0, omega (arith, q .other (x .steps) d, l .here m .1));
+        shares = l .shares ∙ sym (p .other (x .ticks) d);
+        orders = l .orders ∙ sym (q .other (x .ticks) d);
+        here = λ m. (l .here m .0, omega (arith, q .other (x .ticks) d, l .here m .1));
         before = λ j m. none-still j (λ e. omega arith) m;
       }
 
   joins : Leads S′ C′ from to (joined x t r)
-  joins = go (ltb t (x .steps)) refl (eqb t (x .steps)) refl
+  joins = go (ltb t (x .ticks)) refl (eqb t (x .ticks)) refl
     where
-      go : (c : Bool) → ltb t (x .steps) ≡ c → (d : Bool) → eqb t (x .steps) ≡ d
+      go : (c : Bool) → ltb t (x .ticks) ≡ c → (d : Bool) → eqb t (x .ticks) ≡ d
           → Leads S′ C′ from to
-          (cond c (record { steps = t; shares = r; orders = 1 })
-          (cond d (record { steps = t; shares = x .shares + r; orders = x .orders + 1 }) x))
-      go true e d f = better (ltb-true t (x .steps) e)
-      go false e true f = as-good (eqb-true t (x .steps) f)
-      go false e false f = worse (omega (arith, ltb-false t (x .steps) e, eqb-false t (x .steps) f))
+          (cond c (record { ticks = t; shares = r; orders = 1 })
+          (cond d (record { ticks = t; shares = x .shares + r; orders = x .orders + 1 }) x))
+      go true e d f = better (ltb-true t (x .ticks) e)
+      go false e true f = as-good (eqb-true t (x .ticks) f)
+      go false e false f = worse (omega (arith, ltb-false t (x .ticks) e, eqb-false t (x .ticks) f))
 
 -- ---- what a pass sees
 
--- how many steps the order is from the best price possible of the side that is wanted
+-- how many ticks the order is from the best price possible of the side that is wanted
 abbrev pub away : Wanted → Order → ℕ
-away w o = stepsTo (w .side) (o .price .0)
+away w o = ticksTo (w .side) (o .price .0)
 
--- wanted, and i steps away
+-- wanted, and i ticks away
 abbrev pub wantedAt : Wanted → ℕ → Order → Bool
 wantedAt w i o = isWanted w o && eqb (away w o) i
 
@@ -115,8 +115,8 @@ abbrev pub BestBy : Wanted → ((Held → ℕ) → ℕ) → Best → Type 0
 BestBy w F x = Leads (λ i. F (ofWanted w remaining i)) (λ i. F (ofWanted w (λ o. 1) i)) (w .from) (w .to) x
 
 pub data Sees (w : Wanted) (F : (Held → ℕ) → ℕ) : Pass → Type 0 where
-  broken : 0 < F unsoundness → Sees w F pass.Unsound
-  whole : (x : Best) → F unsoundness ≡ 0 → BestBy w F x → Sees w F (pass.Seen x)
+  saw-unsound : 0 < F unsoundness → Sees w F pass.Unsound
+  saw-sound : (x : Best) → F unsoundness ≡ 0 → BestBy w F x → Sees w F (pass.Seen x)
 
 -- an order that is wanted is not before `from`, and below `to`
 pub wanted-inside : (w : Wanted) (o : Order) → isWanted w o ≡ true → (w .from ≤ away w o) × (away w o < w .to)
@@ -158,19 +158,19 @@ module _ (w : Wanted) {F F′ : (Held → ℕ) → ℕ} (o : Order) (g : Grows F
 
 -- nothing more: it sees the same
 same : {w : Wanted} {F F′ : (Held → ℕ) → ℕ} {p : Pass} → ((f : Held → ℕ) → F′ f ≡ F f) → Sees w F p → Sees w F′ p
-same e (broken h) = broken (omega (arith, e unsoundness))
-same e (whole x z l) = whole x (e unsoundness ∙ z) (stays (λ i. e _) (λ i. e _) l)
+same e (saw-unsound h) = saw-unsound (omega (arith, e unsoundness))
+same e (saw-sound x z l) = saw-sound x (e unsoundness ∙ z) (stays (λ i. e _) (λ i. e _) l)
 
 -- what a live slot holds more
 sees-more : {w : Wanted} {F F′ : (Held → ℕ) → ℕ} {p : Pass} → Sees w F p → (h : Held) → Grows F F′ h → Sees w F′ (seen w p h)
-sees-more (broken l) h g = broken (omega (arith, g .by unsoundness))
-sees-more (whole x z l) Unsound g = broken (omega (arith, g .by unsoundness))
-sees-more {w} (whole x z l) (Sound o) g = whole (considered w x o) (omega (arith, g .by unsoundness)) (considers w o g l)
+sees-more (saw-unsound l) h g = saw-unsound (omega (arith, g .by unsoundness))
+sees-more (saw-sound x z l) Unsound g = saw-unsound (omega (arith, g .by unsoundness))
+sees-more {w} (saw-sound x z l) (Sound o) g = saw-sound (considered w x o) (omega (arith, g .by unsoundness)) (considers w o g l)
 
 -- after n slots
 pub sees : (w : Wanted) (b : List ℕ) (k n : ℕ) → Sees w (λ f. sumTo (weighed f b k) n) (visited w b k n)
 unfolding visited sumTo
-sees w b k zero = whole (record { steps = w .to; shares = 0; orders = 0 }) refl (record {
+sees w b k zero = saw-sound (record { ticks = w .to; shares = 0; orders = 0 }) refl (record {
   most = omega arith;
   shares = refl;
   orders = refl;

@@ -1,13 +1,14 @@
 -- The laws of a total: weights that agree on the live slots have one total, a total of 0 has only weights 0, and a bound of each
--- weight bounds the total. What a slot holds is such as 01 allows (`kept`), whatever the book contains. Assumes nothing.
+-- weight bounds the total. What a slot holds is such as 01 allows (`held-kept`), whatever the book contains. Assumes nothing.
 use mathlib.Core.Path.{_≡_, refl, sym, _∙_}
 use mathlib.Core.List.{List}
 use mathlib.Core.Logic.{_⊎_, ⊎-elim}
 use Prim.Native.Nat.{ℕ, zero, suc, _+_, _*_, _≤_, _<_}
 use native.Mathlib.Omega.{arith}
 use Rattle.laws.specs.Bit.{bit-cases}
-use Rattle.laws.specs.Sum.{sumTo, sum-ext, sum-le}
+use Rattle.laws.specs.Sum.{sum-ext, sum-le}
 use Rattle.laws.specs.Least.{same-or}
+use Rattle.laws.specs.Definitions.{sumTo}
 use Rattle.kinds.specs.Admission.{maximum}
 use Rattle.book.specs.Book.{live, numberAt}
 use Rattle.orders.specs.declared.Order.{Order}
@@ -15,7 +16,7 @@ use Rattle.orders.specs.declared.Held.{Held}
 use Rattle.orders.specs.declared.Held.the-variants.{Sound, Unsound}
 use Rattle.orders.specs.Order.{remaining}
 use Rattle.orders.specs.OrderLaws.{held-sound}
-use Rattle.decide.specs.Stored.{heldAt}
+use Rattle.slots.specs.Stored.{heldAt}
 use Rattle.levels.specs.Totals.{weighed, total}
 
 -- ---- what a slot holds
@@ -30,9 +31,9 @@ abbrev pub Kept : Held → Type 0
 Kept (Sound o) = Whole o
 Kept Unsound = Unit {0}
 
-pub kept : (b : List ℕ) (k s : ℕ) → Kept (heldAt b k s)
+pub held-kept : (b : List ℕ) (k s : ℕ) → Kept (heldAt b k s)
 unfolding heldAt maximum remaining
-kept b k s = go (heldAt b k s) refl
+held-kept b k s = go (heldAt b k s) refl
   where
     go : (h : Held) → heldAt b k s ≡ h → Kept h
     go Unsound e = tt

@@ -2,10 +2,10 @@
 -- there, slots that are unsound. Assumes nothing.
 use Prim.Native.Nat.{ℕ, _*_}
 use mathlib.Core.List.{List}
-use Rattle.laws.specs.Sum.{sumTo}
+use Rattle.laws.specs.Definitions.{sumTo}
 use Rattle.book.specs.Book.{live}
 use Rattle.orders.specs.declared.Held.{Held}
-use Rattle.decide.specs.Stored.{heldAt}
+use Rattle.slots.specs.Stored.{heldAt}
 
 -- what slot s adds: a free one nothing
 unfoldable pub weighed : (Held → ℕ) → List ℕ → ℕ → ℕ → ℕ

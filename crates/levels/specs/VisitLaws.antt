@@ -14,20 +14,20 @@ use Rattle.orders.specs.declared.Held.{Held}
 use Rattle.orders.specs.declared.Held.the-variants.{Sound, Unsound}
 use Rattle.orders.specs.Order.{remaining}
 use Rattle.orders.specs.OrderLaws.{held-sound}
-use Rattle.decide.specs.Stored.{heldAt}
+use Rattle.slots.specs.Stored.{heldAt}
 use Rattle.levels.specs.declared.Wanted.{Wanted}
 use Rattle.levels.specs.declared.Best.{Best}
 use Rattle.levels.specs.declared.Pass.{Pass}
 use Rattle.levels.specs.declared.Pass.the-variants as pass
-use Rattle.levels.specs.Levels.{stepsTo}
+use Rattle.levels.specs.Levels.{ticksTo}
 use Rattle.levels.specs.Visits.{isWanted, considered, seen, begun, visited}
 
 -- ---- slot by slot
 
 module _ (w : Wanted) (b : List ℕ) (k : ℕ) where
-  pub free-slot : (n : ℕ) → live b n ≡ 0 → visited w b k (suc n) ≡ visited w b k n
+  pub visit-free : (n : ℕ) → live b n ≡ 0 → visited w b k (suc n) ≡ visited w b k n
   unfolding visited
-  free-slot n e = rw (ne-eqb (live b n) 1 (λ q. let z : _≡_ {A = ℕ} 0 1 = sym e ∙ q in omega arith))
+  visit-free n e = rw (ne-eqb (live b n) 1 (λ q. let z : _≡_ {A = ℕ} 0 1 = sym e ∙ q in omega arith))
 
   pub live-slot : (n : ℕ) → live b n ≡ 1 → visited w b k (suc n) ≡ seen w (visited w b k n) (heldAt b k n)
   unfolding visited
@@ -37,7 +37,7 @@ module _ (w : Wanted) (b : List ℕ) (k : ℕ) where
   pub free-slots : (n d : ℕ) → ((i : ℕ) → i < d → live b (n + i) ≡ 0) → visited w b k (n + d) ≡ visited w b k n
   free-slots n zero none = ap (visited w b k) (add-zero n)
   free-slots n (suc d) none =
-      ap (visited w b k) (add-suc n d) ∙ free-slot (n + d) (none d (omega arith)) ∙ free-slots n d (λ i l. none i (omega arith))
+      ap (visited w b k) (add-suc n d) ∙ visit-free (n + d) (none d (omega arith)) ∙ free-slots n d (λ i l. none i (omega arith))
 
   unsound-still : (n : ℕ) → visited w b k n ≡ pass.Unsound → visited w b k (suc n) ≡ pass.Unsound
   unfolding visited
@@ -58,13 +58,13 @@ module _ (w : Wanted) (b : List ℕ) (k : ℕ) where
       let q : 64 * (j + 1) + (64 * k - 64 * (j + 1)) ≡ 64 * k = omega arith in
       sym (unsound-stays (64 * (j + 1)) (64 * k - 64 * (j + 1)) e) ∙ ap (visited w b k) q
 
-  pub begins : visited w b k 0 ≡ begun w
+  pub visit-none : visited w b k 0 ≡ begun w
   unfolding visited
-  begins = refl
+  visit-none = refl
 
   -- all map numbers are passed
-  pub whole : (j : ℕ) (best : Best) → j ≤ k → k ≤ j → visited w b k (64 * j) ≡ pass.Seen best → pass.Seen best ≡ visited w b k (64 * k)
-  whole j best l h e = let q : 64 * j ≡ 64 * k = omega arith in sym e ∙ ap (visited w b k) q
+  pub visit-all : (j : ℕ) (best : Best) → j ≤ k → k ≤ j → visited w b k (64 * j) ≡ pass.Seen best → pass.Seen best ≡ visited w b k (64 * k)
+  visit-all j best l h e = let q : 64 * j ≡ 64 * k = omega arith in sym e ∙ ap (visited w b k) q
 
 -- ---- the sums stay small
 
@@ -90,20 +90,20 @@ module _ (w : Wanted) where
   more-shares : (best : Best) (o : Order) → considered w best o .shares ≤ best .shares + remaining o
   unfolding considered
   more-shares best o =
-      let steps = stepsTo (w .side) (o .price .0) in
-      let fresh : Best = record { steps = steps; shares = remaining o; orders = 1 } in
-      let more : Best = record { steps = steps; shares = best .shares + remaining o; orders = best .orders + 1 } in
+      let ticks = ticksTo (w .side) (o .price .0) in
+      let fresh : Best = record { ticks = ticks; shares = remaining o; orders = 1 } in
+      let more : Best = record { ticks = ticks; shares = best .shares + remaining o; orders = best .orders + 1 } in
       picked (λ x. x .shares) (best .shares + remaining o) fresh more best (omega arith) (omega arith) (omega arith)
-      (isWanted w o) (ltb steps (best .steps)) (eqb steps (best .steps))
+      (isWanted w o) (ltb ticks (best .ticks)) (eqb ticks (best .ticks))
 
   more-orders : (best : Best) (o : Order) → considered w best o .orders ≤ best .orders + 1
   unfolding considered
   more-orders best o =
-      let steps = stepsTo (w .side) (o .price .0) in
-      let fresh : Best = record { steps = steps; shares = remaining o; orders = 1 } in
-      let more : Best = record { steps = steps; shares = best .shares + remaining o; orders = best .orders + 1 } in
+      let ticks = ticksTo (w .side) (o .price .0) in
+      let fresh : Best = record { ticks = ticks; shares = remaining o; orders = 1 } in
+      let more : Best = record { ticks = ticks; shares = best .shares + remaining o; orders = best .orders + 1 } in
       picked (λ x. x .orders) (best .orders + 1) fresh more best (omega arith) (omega arith) (omega arith)
-      (isWanted w o) (ltb steps (best .steps)) (eqb steps (best .steps))
+      (isWanted w o) (ltb ticks (best .ticks)) (eqb ticks (best .ticks))
 
   small-more : (n : ℕ) (p : Pass) (h : Held) (x : Best) → ((y : Best) → p ≡ pass.Seen y → Small n y)
       → ((o : Order) → h ≡ Sound o → remaining o ≤ 4294967295) → seen w p h ≡ pass.Seen x → Small (suc n) x
@@ -119,7 +119,7 @@ module _ (w : Wanted) where
 
   pub small : (b : List ℕ) (k n : ℕ) (x : Best) → visited w b k n ≡ pass.Seen x → Small n x
   unfolding visited
-  small b k zero x e = let q : x ≡ record { steps = w .to; shares = 0; orders = 0 } = cc in rw q (omega arith)
+  small b k zero x e = let q : x ≡ record { ticks = w .to; shares = 0; orders = 0 } = cc in rw q (omega arith)
   small b k (suc n) x e = go (eqb (live b n) 1) (λ y q. small b k n y q) e
     where
       go : (t : Bool) → ((y : Best) → visited w b k n ≡ pass.Seen y → Small n y)

@@ -4,8 +4,8 @@ ghost use mathlib.Core.Path.{_≡_};
 ghost use Prim.Native.Nat.{ℕ, _+_, _*_, _≤_, _<_, min};
 ghost use Rattle.book.specs.Shape.{Sized};
 ghost use Rattle.orders.specs.Order.{held};
-ghost use Rattle.decide.specs.Stored.{heldAt};
-ghost use Rattle.levels.specs.Levels.{stepsTo};
+ghost use Rattle.slots.specs.Stored.{heldAt};
+ghost use Rattle.levels.specs.Levels.{ticksTo};
 ghost use Rattle.levels.specs.Visits.{joined, visited};
 ghost use Rattle.levels.specs.Glances.{Based, glanced, lettered, roomOf};
 
@@ -14,7 +14,7 @@ pub mod questions;
 use kinds::Locate;
 use kinds::Side;
 use kinds::Slot;
-use messages::Refusal;
+use refusals::Refusal;
 
 // A price with what remains of the orders that stand there, and how many they are.
 pub struct Level {
@@ -36,7 +36,7 @@ pub enum Asked {
     Answered(Best),
 }
 
-// The orders that a pass looks for: of a stock's side, at prices not before `from` and below `to`, in steps from the best possible.
+// The orders that a pass looks for: of a stock's side, at prices not before `from` and below `to`, in ticks from the best possible.
 pub struct Wanted {
     pub locate: Locate,
     pub side: Side,
@@ -44,9 +44,9 @@ pub struct Wanted {
     pub to: u64,
 }
 
-// The best price so far, in steps from the best possible, with the shares and the orders that stand there.
+// The best price so far, in ticks from the best possible, with the shares and the orders that stand there.
 pub struct Best {
-    pub steps: u64,
+    pub ticks: u64,
     pub shares: u64,
     pub orders: u64,
 }
@@ -57,7 +57,7 @@ pub enum Pass {
     Seen(Best),
 }
 
-// What a live slot is to a pass: unsound, nothing, or an order wanted at a price no worse than the best so far, so many steps from
+// What a live slot is to a pass: unsound, nothing, or an order wanted at a price no worse than the best so far, so many ticks from
 // the best possible and with so many shares.
 pub enum Glimpse {
     Unsound,
@@ -65,9 +65,9 @@ pub enum Glimpse {
     Stands(u64, u32),
 }
 
-// How many steps a price is from the best one possible.
-fn steps_to(side: Side, price: u32) -> u64
-    ensures { λ r. ⌜ (r ≡ stepsTo side price) × (r < 4294967296) ⌝ }
+// How many ticks a price is from the best one possible.
+fn ticks_to(side: Side, price: u32) -> u64
+    ensures { λ r. ⌜ (r ≡ ticksTo side price) × (r < 4294967296) ⌝ }
 {
     match side {
         Side::Buy => 4294967295 - (price as u64),
@@ -75,7 +75,7 @@ fn steps_to(side: Side, price: u32) -> u64
     }
 }
 
-// Where the steps of what is wanted begin, in one number with the locate and the side as a slot has them; any number where they
+// Where the ticks of what is wanted begin, in one number with the locate and the side as a slot has them; any number where they
 // begin past all prices.
 fn base_of(w: Wanted) -> u64
     ensures { λ r. ⌜ Based w r ⌝ }
@@ -85,7 +85,7 @@ fn base_of(w: Wanted) -> u64
     if 4294967296 <= w.from {
         return 0;
     }
-    ((locate.0 as u64) * 256 + orders::side_byte(side)) * 1099511627776 + w.from
+    ((locate.0 as u64) * 256 + side.byte()) * 1099511627776 + w.from
 }
 
 fn lesser(a: u64, b: u64) -> u64
@@ -94,7 +94,7 @@ fn lesser(a: u64, b: u64) -> u64
     if a < b { a } else { b }
 }
 
-// How many steps from there on are wanted and no worse than the step `most`.
+// How many ticks from there on are wanted and no worse than the tick `most`.
 fn room_of(w: Wanted, most: u64) -> u64
     ensures { λ r. ⌜ r ≡ roomOf w most ⌝ }
 {
@@ -113,7 +113,8 @@ fn spelled(n3: u64) -> bool
     ensures { λ r. ⌜ r ≡ lettered n3 ⌝ }
 {
     let byte = n3 / 1099511627776 % 256;
-    if byte != 66 + 17 * (byte % 2) {
+    let sided = Side::good(byte);
+    if !sided {
         return false;
     }
     if n3 % 256 != 0 {
@@ -132,7 +133,7 @@ fn lettered(n3: u64) -> bool
     spelled(n3)
 }
 
-// What a live slot with these numbers is to a pass. Whether it is wanted, and no worse than the step `most`, is one compare:
+// What a live slot with these numbers is to a pass. Whether it is wanted, and no worse than the tick `most`, is one compare:
 // branches on the locate, the side and the price would often be predicted wrongly.
 fn weigh(n1: u64, n2: u64, n3: u64, w: Wanted, most: u64, base: u64, room: u64) -> Glimpse
     requires { ⌜ Based w base × (room ≡ roomOf w most) ⌝ }
@@ -154,10 +155,10 @@ fn weigh(n1: u64, n2: u64, n3: u64, w: Wanted, most: u64, base: u64, room: u64) 
         return Glimpse::Unsound;
     }
     let side = w.side;
-    let steps = steps_to(side, (n1 / 4294967296) as u32);
-    let past = std::num::wrapping_sub_u64(n3 - n3 % 1099511627776 + steps, base);
+    let ticks = ticks_to(side, (n1 / 4294967296) as u32);
+    let past = std::num::wrapping_sub_u64(n3 - n3 % 1099511627776 + ticks, base);
     if past < room {
-        return Glimpse::Stands(steps, (added - gone) as u32);
+        return Glimpse::Stands(ticks, (added - gone) as u32);
     }
     Glimpse::Other
 }
@@ -174,19 +175,19 @@ fn glance(book: &[u64], k: usize, slot: Slot, w: Wanted, most: u64, base: u64, r
 }
 
 // The best so far, with one more order that is no worse.
-fn join(best: Best, steps: u64, shares: u32) -> Best
-    requires { ⌜ (best .shares ≤ 1000000000000000000) × (best .orders ≤ 1000000000000000000) × (steps ≤ best .steps) ⌝ }
-    ensures { λ r. ⌜ r ≡ joined best steps shares ⌝ }
+fn join(best: Best, ticks: u64, shares: u32) -> Best
+    requires { ⌜ (best .shares ≤ 1000000000000000000) × (best .orders ≤ 1000000000000000000) × (ticks ≤ best .ticks) ⌝ }
+    ensures { λ r. ⌜ r ≡ joined best ticks shares ⌝ }
 {
-    if steps < best.steps {
+    if ticks < best.ticks {
         return Best {
-            steps,
+            ticks,
             shares: shares as u64,
             orders: 1,
         };
     }
     Best {
-        steps,
+        ticks,
         shares: best.shares + (shares as u64),
         orders: best.orders + 1,
     }
@@ -199,19 +200,19 @@ fn scan_word(book: &[u64], k: usize, j: usize, w: Wanted, best: Best) -> Pass
 {
     let base = base_of(w);
     let mut now = best;
-    let mut room = room_of(w, now.steps);
+    let mut room = room_of(w, now.ticks);
     let mut m = book[j];
     while m != 0 {
         let t = u64::trailing_zeros(m) as usize;
-        let glimpse = glance(book, k, Slot(64 * j + t), w, now.steps, base, room);
+        let glimpse = glance(book, k, Slot(64 * j + t), w, now.ticks, base, room);
         match glimpse {
             Glimpse::Unsound => {
                 return Pass::Unsound;
             }
             Glimpse::Other => {}
-            Glimpse::Stands(steps, shares) => {
-                now = join(now, steps, shares);
-                room = room_of(w, now.steps);
+            Glimpse::Stands(ticks, shares) => {
+                now = join(now, ticks, shares);
+                room = room_of(w, now.ticks);
             }
         }
         m = m & (m - 1);
@@ -225,7 +226,7 @@ fn scan(book: &[u64], k: usize, w: Wanted) -> Pass
     ensures { λ r. ⌜ r ≡ visited w (now (book .entry)) k (64 * k) ⌝ }
 {
     let mut best = Best {
-        steps: w.to,
+        ticks: w.to,
         shares: 0,
         orders: 0,
     };

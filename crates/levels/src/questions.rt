@@ -1,81 +1,69 @@
 // What the desk may ask of a book: a level, the best level of a stock's side, and the next one worse than a price; and what going
-// through all levels asks, the first one from a step on. Each is one pass, and changes nothing.
+// through all levels asks, the first one from a tick on. Each is one pass, and changes nothing.
 ghost use mathlib.Core.Path.{_≡_};
 ghost use Prim.Native.Nat.{_<_};
 ghost use lib.ListN.{length};
+ghost use Rattle.kinds.specs.Sides.{sideOf};
 ghost use Rattle.book.specs.Book.{wordsOf};
-ghost use Rattle.messages.specs.Typed.{sideOf};
-ghost use Rattle.wellformed.specs.WellFormed.{goodSide};
 ghost use Rattle.levels.specs.Levels.{bestOf, checked, levelOf, nextOf, priceAt, standing};
-ghost use Rattle.levels.specs.Asks.{asked};
+ghost use Rattle.levels.specs.Asks.{scanned};
+ghost use Rattle.refusals.specs.Refusals.{refusalOf};
 use crate::Asked;
 use crate::Level;
 use crate::Pass;
 use crate::Quote;
 use crate::Wanted;
 use crate::scan;
-use crate::steps_to;
+use crate::ticks_to;
 use kinds::Locate;
 use kinds::Side;
-use messages::Refusal;
+use refusals::BOOK;
+use refusals::FIELD;
+use refusals::Refusal;
+use refusals::SHAPE;
 
-fn good_side(byte: u8) -> bool
-    ensures { λ r. ⌜ r ≡ goodSide byte ⌝ }
-{
-    if byte == 66 {
-        return true;
-    }
-    byte == 83
-}
-
-fn side_of(byte: u8) -> Side
-    ensures { λ r. ⌜ r ≡ sideOf byte ⌝ }
-{
-    if byte == 66 { Side::Buy } else { Side::Sell }
-}
-
-// The price so many steps from the best one possible.
-fn price_at(side: Side, steps: u64) -> u32
-    requires { ⌜ steps < 4294967296 ⌝ }
-    ensures { λ r. ⌜ r ≡ priceAt side steps ⌝ }
+// The price so many ticks from the best one possible.
+fn price_at(side: Side, ticks: u64) -> u32
+    requires { ⌜ ticks < 4294967296 ⌝ }
+    ensures { λ r. ⌜ r ≡ priceAt side ticks ⌝ }
 {
     match side {
-        Side::Buy => (4294967295 - steps) as u32,
-        Side::Sell => steps as u32,
+        Side::Buy => (4294967295 - ticks) as u32,
+        Side::Sell => ticks as u32,
     }
 }
 
 fn refuse(n: u8) -> Asked
-    ensures { λ r. ⌜ r ≡ Asked.Refused (record { number = n }) ⌝ }
+    ensures { λ r. ⌜ r ≡ Asked.Refused (refusalOf n) ⌝ }
 {
-    Asked::Refused(Refusal { number: n })
+    Asked::Refused(Refusal::of(n))
 }
 
 // The pass for a side that was given as a byte: 14, 4 and 13 in this order, or what it saw.
 fn ask(book: &[u64], byte: u8, w: Wanted) -> Asked
-    ensures { λ r. ⌜ r ≡ asked w (now (book .entry)) byte ⌝ }
+    ensures { λ r. ⌜ r ≡ scanned w (now (book .entry)) byte ⌝ }
 {
     let k = book::words_of(book.len());
     if k == 0 {
-        return refuse(14);
+        return refuse(SHAPE);
     }
-    let good = good_side(byte);
+    let good = Side::good(byte as u64);
     if !good {
-        return refuse(4);
+        return refuse(FIELD);
     }
     let pass = scan(book, k, w);
     let Pass::Seen(best) = pass else {
-        return refuse(13);
+        return refuse(BOOK);
     };
     Asked::Answered(best)
 }
 
-// The best level of a stock's side not before the step `from`, counted from the best price possible.
+// The best level of a stock's side not before the tick `from`, counted from the best price possible.
 pub fn first_from(book: &[u64], locate: Locate, byte: u8, from: u64) -> Quote
     ensures { λ r. ⌜ r ≡ checked (now (book .entry)) byte (standing (now (book .entry)) (wordsOf (length (now (book .entry)))) (locate .0) (sideOf byte) from) ⌝ }
 {
-    let side = side_of(byte);
-    let asked = ask(
+    let side = Side::of(byte as u64);
+    let scanned = ask(
         book,
         byte,
         Wanted {
@@ -85,13 +73,13 @@ pub fn first_from(book: &[u64], locate: Locate, byte: u8, from: u64) -> Quote
             to: 4294967296,
         },
     );
-    match asked {
+    match scanned {
         Asked::Refused(refusal) => Quote::Refused(refusal),
         Asked::Answered(best) => {
-            let steps = best.steps;
-            if steps < 4294967296 {
+            let ticks = best.ticks;
+            if ticks < 4294967296 {
                 Quote::Stands(Level {
-                    price: price_at(side, steps),
+                    price: price_at(side, ticks),
                     shares: best.shares,
                     orders: best.orders,
                 })
@@ -106,9 +94,9 @@ pub fn first_from(book: &[u64], locate: Locate, byte: u8, from: u64) -> Quote
 pub fn level(book: &[u64], locate: Locate, side: u8, price: u32) -> Quote
     ensures { λ r. ⌜ r ≡ levelOf (now (book .entry)) (locate .0) side price ⌝ }
 {
-    let own = side_of(side);
-    let from = steps_to(own, price);
-    let asked = ask(
+    let own = Side::of(side as u64);
+    let from = ticks_to(own, price);
+    let scanned = ask(
         book,
         side,
         Wanted {
@@ -118,7 +106,7 @@ pub fn level(book: &[u64], locate: Locate, side: u8, price: u32) -> Quote
             to: from + 1,
         },
     );
-    match asked {
+    match scanned {
         Asked::Refused(refusal) => Quote::Refused(refusal),
         Asked::Answered(there) => Quote::Stands(Level {
             price,
@@ -139,7 +127,7 @@ pub fn best(book: &[u64], locate: Locate, side: u8) -> Quote
 pub fn next(book: &[u64], locate: Locate, side: u8, price: u32) -> Quote
     ensures { λ r. ⌜ r ≡ nextOf (now (book .entry)) (locate .0) side price ⌝ }
 {
-    let own = side_of(side);
-    let past = steps_to(own, price) + 1;
+    let own = Side::of(side as u64);
+    let past = ticks_to(own, price) + 1;
     first_from(book, locate, side, past)
 }

@@ -2,18 +2,12 @@
 -- of the table of fields. One definition gives them for every case of the answer. Assumes nothing.
 use Prim.Native.Nat.{ℕ}
 use mathlib.Core.List.{List, [], _∷_}
-use Rattle.kinds.specs.declared.Side.{Side}
-use Rattle.kinds.specs.declared.Side.the-variants.{Buy, Sell}
+use Rattle.kinds.specs.Sides.{sideByte}
 use Rattle.messages.specs.declared.Head.{Head}
 use Rattle.messages.specs.declared.Message.{Message}
 use Rattle.messages.specs.declared.Message.the-variants as m
 use Rattle.messages.specs.declared.Answer.{Answer}
 use Rattle.messages.specs.declared.Answer.the-variants.{Good, Refused}
-
--- B and S
-abbrev pub sideByte : Side → ℕ
-sideByte Buy = 66
-sideByte Sell = 83
 
 -- a message's type byte
 abbrev pub letterOf : Message → ℕ

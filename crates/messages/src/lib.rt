@@ -4,6 +4,7 @@ use kinds::Locate;
 use kinds::Price;
 use kinds::Reference;
 use kinds::Side;
+use refusals::Refusal;
 
 // The fields that every message begins with.
 pub struct Head {
@@ -250,11 +251,6 @@ pub enum Message {
     NetOrderImbalance(NetOrderImbalance),
     RetailInterest(RetailInterest),
     DirectListing(DirectListing),
-}
-
-// Why a message is refused: the number that 01 gives the refusal. Callers hand it on whole.
-pub struct Refusal {
-    pub number: u8,
 }
 
 // What reading a message comes to.

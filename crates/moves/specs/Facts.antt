@@ -15,7 +15,7 @@ use Rattle.orders.specs.declared.Held.the-variants.{Sound}
 use Rattle.orders.specs.Order.{remaining}
 use Rattle.orders.specs.OrderLaws.{Fit}
 use Rattle.decide.specs.Decide.{Verdict, refuse, enter, alter, leave, renew, enroll, pass, renewed}
-use Rattle.decide.specs.Stored.{heldAt}
+use Rattle.slots.specs.Stored.{heldAt}
 use Rattle.take.specs.declared.Taking.{Taking}
 use Rattle.take.specs.Taken.{takenBy}
 use Rattle.steps.specs.Asked.{Asked, register, start, take, close, replace, nothing}

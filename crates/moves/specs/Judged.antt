@@ -8,6 +8,7 @@ use Prim.Native.Nat.{ℕ, _+_, _*_, _≤_, _<_}
 use native.Mathlib.Omega.{arith}
 use borrow.Author.Tests.{eqb-true, eqb-false, leb-true, not-true}
 use lib.Dec.{eqb, leb}
+use Rattle.refusals.specs.Refusals.{BOOK, NO-ORDER}
 use Rattle.text.specs.Text.{text, letters, letter}
 use Rattle.kinds.specs.declared.Slot.{Slot}
 use Rattle.kinds.specs.Admission.{maximum}
@@ -20,18 +21,18 @@ use Rattle.book.specs.Slots.{cleared-room}
 use Rattle.directory.specs.declared.Entry.{Entry}
 use Rattle.directory.specs.declared.Entry.the-variants.{Outside, Symbol}
 use Rattle.directory.specs.Directory.{entryAt, isSymbol}
-use Rattle.directory.specs.DirectoryLaws.{inside}
+use Rattle.directory.specs.DirectoryLaws.{entry-means, symbol-is}
 use Rattle.orders.specs.declared.Order.{Order}
 use Rattle.orders.specs.declared.Held.{Held}
 use Rattle.orders.specs.declared.Held.the-variants.{Sound, Unsound}
 use Rattle.orders.specs.Order.{remaining}
 use Rattle.orders.specs.OrderLaws.{Fit, held-fit, held-numbers, fresh-fit}
 use Rattle.decide.specs.Decide.{Verdict, refuse, enroll, pass, gate, unattributed, renewed}
-use Rattle.decide.specs.Decide.{Seen, nothing as unseen, something, isRegistered, registering, taking, closing, replacing}
-use Rattle.decide.specs.Stored.{heldAt, seenIn, isAt}
+use Rattle.decide.specs.Decide.{Seen, unseen, something, isRegistered, registering, taking, closing, replacing}
+use Rattle.slots.specs.Stored.{heldAt, isAt, seenIn}
 use Rattle.take.specs.Taken.{takenBy}
 use Rattle.steps.specs.Asked.{Asked, register, start, take, close, replace, nothing}
-use Rattle.steps.specs.Steps.{judged}
+use Rattle.steps.specs.Steps.{verdictOn}
 use Rattle.moves.specs.Lawful.{Starts, Symbolic, Lawful}
 use Rattle.moves.specs.Moves.{Numbers}
 use Rattle.moves.specs.Facts.{Rests, Facts}
@@ -45,10 +46,6 @@ absent Nothing e = refl
 present : (f : Found) → isAt f ≡ true → (s : Slot) × (f ≡ At s)
 present (At s) e = (s, refl)
 present Nothing e = absurd (false≢true e)
-
-symbol-is : (symbol : ℕ) (e : Entry) → isSymbol symbol e ≡ true → e ≡ Symbol symbol
-symbol-is symbol Outside e = absurd (false≢true e)
-symbol-is symbol (Symbol n) e = ap Symbol (eqb-true n symbol e)
 
 -- ---- the orders
 
@@ -97,7 +94,7 @@ module _ {d b : List ℕ} {k : ℕ} {a : Asked} where
   through false n f = refusal
 
   -- of what is seen under a reference only a sound order comes to anything
-  named : (r : ℕ) (f : Seen → Verdict) → Numbers b → f unseen ≡ refuse 10 → f (something Unsound) ≡ refuse 13
+  named : (r : ℕ) (f : Seen → Verdict) → Numbers b → f unseen ≡ refuse NO-ORDER → f (something Unsound) ≡ refuse BOOK
       → ((o : Order) → Rests b k r o → Told d b k a (f (something (Sound o)))) → Told d b k a (f (seenIn b k (find b k r)))
   named r f n p q next = go (find b k r) refl
     where
@@ -118,9 +115,9 @@ registers d b k l symbol y (Symbol n) p = go (eqb n 0) refl
   where
     go : (t : Bool) → eqb n 0 ≡ t → Told d b k (register l symbol) (cond t (enroll l symbol) (gate (eqb n symbol) 8 pass))
     go true e =
-        let i = inside d l n p in
+        let i = entry-means d l n .0 p in
         record {
-          told = record { asks = refl; vacant = p ∙ ap Symbol (eqb-true n 0 e); from = i .0; inside = i .1; symbolic = y };
+          told = record { asks = refl; vacant = p ∙ ap Symbol (eqb-true n 0 e); from = i .from; inside = i .inside; symbolic = y };
         }
     go false e =
         through (eqb n symbol) 8 λ q.
@@ -128,7 +125,7 @@ registers d b k l symbol y (Symbol n) p = go (eqb n 0) refl
           told = inr (record { locate = l; symbol = symbol; asks = refl; listed = p ∙ ap Symbol (eqb-true n symbol q); symbolic = y });
         }
 
-tells : (d b : List ℕ) (k : ℕ) (a : Asked) → Sized b k → Numbers b → Lawful a → Told d b k a (judged d b k a)
+tells : (d b : List ℕ) (k : ℕ) (a : Asked) → Sized b k → Numbers b → Lawful a → Told d b k a (verdictOn d b k a)
 tells d b k (register l symbol) z n y = registers d b k l symbol (y .1) (entryAt d l) refl
 tells d b k (start o symbol) z n y =
     let e = entryAt d (o .locate .0) in
@@ -148,7 +145,7 @@ tells d b k (start o symbol) z n y =
         slot = room .0;
         free = room .1;
         starts = y .0;
-        fit = started-fit o (y .0) (inside d (o .locate .0) symbol listed .0);
+        fit = started-fit o (y .0) (entry-means d (o .locate .0) symbol .0 listed .from);
       };
     }
 tells d b k (take how r l c) z n y =
@@ -202,5 +199,5 @@ tells d b k (replace original new l c price) z n y =
 tells d b k nothing z n y = record { told = inl refl }
 
 -- the verdict on what is asked has its facts
-pub facts : (d b : List ℕ) (k : ℕ) (a : Asked) → Sized b k → Numbers b → Lawful a → Facts d b k a (judged d b k a)
+pub facts : (d b : List ℕ) (k : ℕ) (a : Asked) → Sized b k → Numbers b → Lawful a → Facts d b k a (verdictOn d b k a)
 facts d b k a z n y = tells d b k a z n y .told

@@ -7,31 +7,29 @@ use Prim.Native.Nat.{ℕ, _+_, _*_, _/_, _%_, _≤_, _<_}
 use native.Mathlib.Omega.{arith}
 use borrow.Author.Tests.{eqb-false}
 use lib.Dec.{eqb}
-use lib.ListN.{length, getD, set, length-set}
+use lib.ListN.{length, getD, set}
 use lib.Seq.{set-out, getD-set-same, getD-set-other}
-use Rattle.laws.specs.Bit.{setBit, clearBit, setBit-lt}
+use Rattle.laws.specs.Bit.{setBit-lt}
 use Rattle.laws.specs.Least.{same-or, lt-or-le}
+use Rattle.laws.specs.Definitions.{setBit, clearBit}
 use Rattle.kinds.specs.Admission.{maximum}
 use Rattle.kinds.specs.declared.Side.{Side}
 use Rattle.kinds.specs.declared.Side.the-variants.{Buy, Sell}
-use Rattle.messages.specs.Numbers.{sideByte}
+use Rattle.kinds.specs.Sides.{sideByte}
+use Rattle.directory.specs.DirectoryLaws.{registered-below, registered-length}
 use Rattle.book.specs.declared.Found.{Found}
 use Rattle.book.specs.declared.Found.the-variants.{At, Nothing}
 use Rattle.book.specs.Book.{four, putSlot, clearSlot, lowestFree}
-use Rattle.book.specs.Shape.{Sized}
 use Rattle.book.specs.Slots.{put-length, clear-length}
-use Rattle.directory.specs.Directory.{registered}
 use Rattle.orders.specs.declared.Order.{Order}
 use Rattle.orders.specs.Order.{remaining, second, third, fourth}
 use Rattle.orders.specs.OrderLaws.{Fit}
 use Rattle.decide.specs.Decide.{Verdict, refuse, enter, alter, leave, renew, enroll, pass}
-use Rattle.decide.specs.Stored.{putOrder, placed, entered, kept, stored, enrolled}
+use Rattle.slots.specs.Stored.{entered, kept, placed, putOrder, stored}
+use Rattle.enroll.specs.Enrolled.{enrolled}
 use Rattle.steps.specs.Asked.{Asked}
-use Rattle.steps.specs.Steps.{judged, slotNamed}
-use Rattle.moves.specs.Lawful.{Lawful}
 use Rattle.moves.specs.Moves.{Numbers}
 use Rattle.moves.specs.Facts.{Facts}
-use Rattle.moves.specs.Judged.{facts}
 use Rattle.moves.specs.Altered.{altered-reference, altered-fit}
 
 -- ---- lengths
@@ -67,17 +65,13 @@ stored-length b k s (enroll l symbol) = refl
 stored-length b k s pass = refl
 
 pub enrolled-length : (d : List ℕ) (v : Verdict) → length (enrolled d v) ≡ length d
-unfolding registered
 enrolled-length d (refuse n) = refl
 enrolled-length d (enter o) = refl
 enrolled-length d (alter o o′ n) = refl
 enrolled-length d (leave o) = refl
 enrolled-length d (renew o o′) = refl
-enrolled-length d (enroll l symbol) = length-set d l symbol
+enrolled-length d (enroll l symbol) = registered-length d l symbol
 enrolled-length d pass = refl
-
-pub sized-kept : (b : List ℕ) (k s : ℕ) (v : Verdict) → Sized b k → Sized (stored b k s v) k
-sized-kept b k s v z = record { size = stored-length b k s v ∙ z .size; most = z .most }
 
 -- ---- numbers that fit 64 bits
 
@@ -174,20 +168,10 @@ module _ (d b : List ℕ) (k : ℕ) (a : Asked) where
   stored-numbers s pass f n = n
 
   pub enrolled-numbers : (v : Verdict) → Facts d b k a v → Numbers d → Numbers (enrolled d v)
-  unfolding registered
   enrolled-numbers (refuse c) f n = n
   enrolled-numbers (enter o) f n = n
   enrolled-numbers (alter o o′ c) f n = n
   enrolled-numbers (leave o) f n = n
   enrolled-numbers (renew o o′) f n = n
-  enrolled-numbers (enroll l symbol) f n = set-numbers d l symbol n (f .symbolic .fits)
+  enrolled-numbers (enroll l symbol) f n = registered-below d l symbol _ n (f .symbolic .fits)
   enrolled-numbers pass f n = n
-
--- ---- for what is asked
-
-module _ (d b : List ℕ) (k : ℕ) (a : Asked) (z : Sized b k) (n : Numbers b) (y : Lawful a) where
-  pub numbers-kept : Numbers (stored b k (slotNamed b k a) (judged d b k a))
-  numbers-kept = stored-numbers d b k a (slotNamed b k a) (judged d b k a) (facts d b k a z n y) n
-
-  pub entries-kept : Numbers d → Numbers (enrolled d (judged d b k a))
-  entries-kept m = enrolled-numbers d b k a (judged d b k a) (facts d b k a z n y) m

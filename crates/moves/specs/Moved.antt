@@ -20,10 +20,10 @@ use Rattle.orders.specs.declared.Held.the-variants.{Sound}
 use Rattle.orders.specs.Order.{remaining}
 use Rattle.orders.specs.OrderLaws.{Fit}
 use Rattle.decide.specs.Decide.{Verdict, refuse, enter, alter, leave, renew, enroll, pass}
-use Rattle.decide.specs.Stored.{slotOf, putOrder, entered, kept, stored}
+use Rattle.slots.specs.Stored.{entered, kept, putOrder, slotOf, stored}
 use Rattle.levels.specs.Totals.{total}
 use Rattle.steps.specs.Asked.{Asked}
-use Rattle.steps.specs.Steps.{judged, slotNamed}
+use Rattle.steps.specs.Steps.{verdictOn, slotSought}
 use Rattle.moves.specs.Lawful.{Lawful}
 use Rattle.moves.specs.Moves.{takenOut, putIn, Moved, Numbers}
 use Rattle.moves.specs.TotalMoves.{put-total, put-free-total, clear-total, clear-held-total}
@@ -86,28 +86,28 @@ out-of {b} {k} v named z i at out put =
 
 module _ (d b : List ℕ) (k : ℕ) (a : Asked) (z : Sized b k) where
   -- a verdict with its facts moves what it takes out and puts in
-  pub moves : (v : Verdict) → Facts d b k a v → Moved b (stored b k (slotNamed b k a) v) k v
+  pub moves : (v : Verdict) → Facts d b k a v → Moved b (stored b k (slotSought b k a) v) k v
   moves (refuse n) f = still (λ w. refl) (λ w. refl)
   moves (enter o) f =
       record {
-        size = stored-length b k (slotNamed b k a) (enter o);
+        size = stored-length b k (slotSought b k a) (enter o);
         rest = λ w. total w b k;
         took = λ w. omega arith;
         gave = λ w. entered-total w b k o (f .slot) z (f .fit) (f .free);
       }
   moves (alter o o′ n) f =
-      out-of (alter o o′ n) (slotNamed b k a) z (f .rests) (ap (slotNamed b k) (f .asks)) (λ w. refl) λ w.
+      out-of (alter o o′ n) (slotSought b k a) z (f .rests) (ap (slotSought b k) (f .asks)) (λ w. refl) λ w.
       kept-total z (f .rests) w o′ (altered-fit f)
   moves (leave o) f =
-      out-of (leave o) (slotNamed b k a) z (f .rests) (ap (slotNamed b k) (f .asks)) (λ w. refl) λ w. omega arith
+      out-of (leave o) (slotSought b k a) z (f .rests) (ap (slotSought b k) (f .asks)) (λ w. refl) λ w. omega arith
   moves (renew o o′) f =
       let s = f .rests .slot .0 in
-      out-of (renew o o′) (slotNamed b k a) z (f .rests) (ap (slotNamed b k) (f .asks)) (λ w. refl) λ w.
+      out-of (renew o o′) (slotSought b k a) z (f .rests) (ap (slotSought b k) (f .asks)) (λ w. refl) λ w.
       entered-total w (clearSlot b k s) k o′ (f .slot) (clear-sized b k s z) (f .fit) (f .free)
   moves (enroll l symbol) f = still (λ w. refl) (λ w. refl)
   moves pass f = still (λ w. refl) (λ w. refl)
 
 -- and so does what is asked
 pub moved : (d b : List ℕ) (k : ℕ) (a : Asked) → Sized b k → Numbers b → Lawful a
-    → Moved b (stored b k (slotNamed b k a) (judged d b k a)) k (judged d b k a)
-moved d b k a z n y = moves d b k a z (judged d b k a) (facts d b k a z n y)
+    → Moved b (stored b k (slotSought b k a) (verdictOn d b k a)) k (verdictOn d b k a)
+moved d b k a z n y = moves d b k a z (verdictOn d b k a) (facts d b k a z n y)

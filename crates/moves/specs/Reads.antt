@@ -16,7 +16,7 @@ use Rattle.kinds.specs.declared.Side.{Side}
 use Rattle.kinds.specs.Admission.{maximum}
 use Rattle.text.specs.Text.{text}
 use Rattle.layout.specs.Kind.{Kind, Cell, cell}
-use Rattle.layout.specs.Kind.Kind.{number, shares as quantity, price4, text as texts}
+use Rattle.layout.specs.Kind.Kind.{number, shares as quantity, price4, texts}
 use Rattle.layout.specs.Layout.{cellsOf}
 use Rattle.messages.specs.declared.Head.{Head}
 use Rattle.messages.specs.declared.Message.{Message}
@@ -25,9 +25,9 @@ use Rattle.messages.specs.declared.Answer.the-variants.{Good}
 use Rattle.messages.specs.Numbers.{letterOf, valuesOf, numbers}
 use Rattle.wellformed.specs.WellFormed.{good, goodShares, goodPrice, values}
 use Rattle.reader.specs.Read.{typeOf, answer}
-use Rattle.numbers.specs.Shown.{number as numberOf}
+use Rattle.numbers.specs.Shown.{answerNumber as numberOf}
 use Rattle.read_theorems.specs.Statements.{AllGood}
-use Rattle.read_theorems.specs.Exactly.{exactly}
+use Rattle.read_theorems.specs.Exactly.{read-exactly}
 use Rattle.read_theorems.specs.Fields.{accepted-fields}
 use Rattle.decide.specs.Decide.{unattributed}
 use Rattle.steps.specs.Asked.{starting, asked}
@@ -65,7 +65,7 @@ read-at s x b e i =
     let l : 0 ∷ letterOf x ∷ valuesOf x ≡ 0 ∷ typeOf s ∷ values s cs = sym (ap numbers e) ∙ accepted-fields s n .listed in
     let t : letterOf x ≡ typeOf s = ap (λ (v : List ℕ). nth v 1) l in
     let v : nth (valuesOf x) i ≡ nth (values s cs) i = ap (λ (v : List ℕ). nth v (suc (suc i))) l in
-    rw (t, v) (values-passed s cs i b (exactly s .done .0 n .1))
+    rw (t, v) (values-passed s cs i b (read-exactly s .done .0 n .1))
 
 -- ---- what is known of a number that has passed, by its kind
 

@@ -14,7 +14,7 @@ use Rattle.orders.specs.declared.Held.{Held}
 use Rattle.orders.specs.declared.Held.the-variants.{Sound}
 use Rattle.orders.specs.Order.{held, second, third, fourth}
 use Rattle.orders.specs.OrderLaws.{Fit, held-again}
-use Rattle.decide.specs.Stored.{heldAt, putOrder}
+use Rattle.slots.specs.Stored.{heldAt, putOrder}
 use Rattle.levels.specs.Totals.{weighed, total}
 
 -- a slot with bit v that holds h weighs v times h's weight

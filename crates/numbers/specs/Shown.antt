@@ -13,15 +13,15 @@ padded (suc n) [] = 0 ∷ padded n []
 padded (suc n) (x ∷ v) = x ∷ padded n v
 
 -- the type byte and the fields of a message
-abbrev pub shown : Message → List ℕ
-shown m = padded 18 (letterOf m ∷ valuesOf m)
+abbrev pub messageRow : Message → List ℕ
+messageRow m = padded 18 (letterOf m ∷ valuesOf m)
 
 -- 01's number of an answer
-abbrev pub number : Answer → ℕ
-number (Good m) = 0
-number (Refused r) = r .number
+abbrev pub answerNumber : Answer → ℕ
+answerNumber (Good m) = 0
+answerNumber (Refused r) = r .number
 
 -- the 18 numbers beside it: all 0 for a refusal
-abbrev pub row : Answer → List ℕ
-row (Good m) = shown m
-row (Refused r) = padded 18 []
+abbrev pub answerRow : Answer → List ℕ
+answerRow (Good m) = messageRow m
+answerRow (Refused r) = padded 18 []

@@ -1,13 +1,13 @@
 // The messages about auctions and retail interest, as rows of numbers.
 ghost use mathlib.Core.Path.{_≡_};
 ghost use Rattle.messages.specs.declared.Message.{Message};
-ghost use Rattle.numbers.specs.Shown.{shown};
+ghost use Rattle.numbers.specs.Shown.{messageRow};
 use messages::DirectListing;
 use messages::NetOrderImbalance;
 use messages::RetailInterest;
 
 pub fn net_order_imbalance(m: NetOrderImbalance, out: &mut [u64; 18])
-    ensures { λ _. ⌜ now (out .exit) ≡ shown (Message.NetOrderImbalance m) ⌝ }
+    ensures { λ _. ⌜ now (out .exit) ≡ messageRow (Message.NetOrderImbalance m) ⌝ }
 {
     *out = [
         73,
@@ -32,7 +32,7 @@ pub fn net_order_imbalance(m: NetOrderImbalance, out: &mut [u64; 18])
 }
 
 pub fn retail_interest(m: RetailInterest, out: &mut [u64; 18])
-    ensures { λ _. ⌜ now (out .exit) ≡ shown (Message.RetailInterest m) ⌝ }
+    ensures { λ _. ⌜ now (out .exit) ≡ messageRow (Message.RetailInterest m) ⌝ }
 {
     *out = [
         78,
@@ -57,7 +57,7 @@ pub fn retail_interest(m: RetailInterest, out: &mut [u64; 18])
 }
 
 pub fn direct_listing(m: DirectListing, out: &mut [u64; 18])
-    ensures { λ _. ⌜ now (out .exit) ≡ shown (Message.DirectListing m) ⌝ }
+    ensures { λ _. ⌜ now (out .exit) ≡ messageRow (Message.DirectListing m) ⌝ }
 {
     *out = [
         79,

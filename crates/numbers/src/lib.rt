@@ -1,29 +1,18 @@
 // An answer as numbers that another language can read: 01's number, and 18 numbers, of which the first is the type byte and
 // the others are the fields after it in the order of document 000, with 0 behind the last.
 ghost use mathlib.Core.Path.{_≡_};
-ghost use Rattle.messages.specs.Numbers.{sideByte};
-ghost use Rattle.numbers.specs.Shown.{number, row, shown};
+ghost use Rattle.numbers.specs.Shown.{answerNumber, answerRow, messageRow};
 
 mod auctions;
 mod market;
 mod orders;
 mod stocks;
 
-use kinds::Side;
 use messages::Answer;
 use messages::Message;
 
-pub fn side_byte(side: Side) -> u64
-    ensures { λ r. ⌜ r ≡ sideByte side ⌝ }
-{
-    match side {
-        Side::Buy => 66,
-        Side::Sell => 83,
-    }
-}
-
 pub fn message(m: Message, out: &mut [u64; 18])
-    ensures { λ _. ⌜ now (out .exit) ≡ shown m ⌝ }
+    ensures { λ _. ⌜ now (out .exit) ≡ messageRow m ⌝ }
 {
     match m {
         Message::SystemEvent(m) => market::system_event(m, out),
@@ -54,7 +43,7 @@ pub fn message(m: Message, out: &mut [u64; 18])
 
 // The number of an answer, with its 18 numbers left in out.
 pub fn write(a: Answer, out: &mut [u64; 18]) -> u8
-    ensures { λ r. ⌜ (r ≡ number a) × (now (out .exit) ≡ row a) ⌝ }
+    ensures { λ r. ⌜ (r ≡ answerNumber a) × (now (out .exit) ≡ answerRow a) ⌝ }
 {
     match a {
         Answer::Good(m) => {

@@ -1,8 +1,7 @@
 // The messages about the market, and trades, as rows of numbers.
 ghost use mathlib.Core.Path.{_≡_};
 ghost use Rattle.messages.specs.declared.Message.{Message};
-ghost use Rattle.numbers.specs.Shown.{shown};
-use crate::side_byte;
+ghost use Rattle.numbers.specs.Shown.{messageRow};
 use messages::BrokenTrade;
 use messages::CrossTrade;
 use messages::MwcbDeclineLevel;
@@ -11,7 +10,7 @@ use messages::SystemEvent;
 use messages::Trade;
 
 pub fn system_event(m: SystemEvent, out: &mut [u64; 18])
-    ensures { λ _. ⌜ now (out .exit) ≡ shown (Message.SystemEvent m) ⌝ }
+    ensures { λ _. ⌜ now (out .exit) ≡ messageRow (Message.SystemEvent m) ⌝ }
 {
     *out = [
         83,
@@ -36,7 +35,7 @@ pub fn system_event(m: SystemEvent, out: &mut [u64; 18])
 }
 
 pub fn mwcb_decline_level(m: MwcbDeclineLevel, out: &mut [u64; 18])
-    ensures { λ _. ⌜ now (out .exit) ≡ shown (Message.MwcbDeclineLevel m) ⌝ }
+    ensures { λ _. ⌜ now (out .exit) ≡ messageRow (Message.MwcbDeclineLevel m) ⌝ }
 {
     *out = [
         86,
@@ -61,7 +60,7 @@ pub fn mwcb_decline_level(m: MwcbDeclineLevel, out: &mut [u64; 18])
 }
 
 pub fn mwcb_status(m: MwcbStatus, out: &mut [u64; 18])
-    ensures { λ _. ⌜ now (out .exit) ≡ shown (Message.MwcbStatus m) ⌝ }
+    ensures { λ _. ⌜ now (out .exit) ≡ messageRow (Message.MwcbStatus m) ⌝ }
 {
     *out = [
         87,
@@ -86,7 +85,7 @@ pub fn mwcb_status(m: MwcbStatus, out: &mut [u64; 18])
 }
 
 pub fn trade(m: Trade, out: &mut [u64; 18])
-    ensures { λ _. ⌜ now (out .exit) ≡ shown (Message.Trade m) ⌝ }
+    ensures { λ _. ⌜ now (out .exit) ≡ messageRow (Message.Trade m) ⌝ }
 {
     let side = m.buy_sell_indicator;
     *out = [
@@ -95,7 +94,7 @@ pub fn trade(m: Trade, out: &mut [u64; 18])
         m.head.tracking_number as u64,
         m.head.timestamp,
         m.order_reference_number.0,
-        side_byte(side),
+        side.byte(),
         m.shares as u64,
         m.stock,
         m.price.0 as u64,
@@ -112,7 +111,7 @@ pub fn trade(m: Trade, out: &mut [u64; 18])
 }
 
 pub fn cross_trade(m: CrossTrade, out: &mut [u64; 18])
-    ensures { λ _. ⌜ now (out .exit) ≡ shown (Message.CrossTrade m) ⌝ }
+    ensures { λ _. ⌜ now (out .exit) ≡ messageRow (Message.CrossTrade m) ⌝ }
 {
     *out = [
         81,
@@ -137,7 +136,7 @@ pub fn cross_trade(m: CrossTrade, out: &mut [u64; 18])
 }
 
 pub fn broken_trade(m: BrokenTrade, out: &mut [u64; 18])
-    ensures { λ _. ⌜ now (out .exit) ≡ shown (Message.BrokenTrade m) ⌝ }
+    ensures { λ _. ⌜ now (out .exit) ≡ messageRow (Message.BrokenTrade m) ⌝ }
 {
     *out = [
         66,

@@ -1,8 +1,7 @@
 // The messages that move orders, as rows of numbers.
 ghost use mathlib.Core.Path.{_≡_};
 ghost use Rattle.messages.specs.declared.Message.{Message};
-ghost use Rattle.numbers.specs.Shown.{shown};
-use crate::side_byte;
+ghost use Rattle.numbers.specs.Shown.{messageRow};
 use messages::AddOrder;
 use messages::AddOrderMpid;
 use messages::OrderCancel;
@@ -12,7 +11,7 @@ use messages::OrderExecutedWithPrice;
 use messages::OrderReplace;
 
 pub fn add_order(m: AddOrder, out: &mut [u64; 18])
-    ensures { λ _. ⌜ now (out .exit) ≡ shown (Message.AddOrder m) ⌝ }
+    ensures { λ _. ⌜ now (out .exit) ≡ messageRow (Message.AddOrder m) ⌝ }
 {
     let side = m.buy_sell_indicator;
     *out = [
@@ -21,7 +20,7 @@ pub fn add_order(m: AddOrder, out: &mut [u64; 18])
         m.head.tracking_number as u64,
         m.head.timestamp,
         m.order_reference_number.0,
-        side_byte(side),
+        side.byte(),
         m.shares as u64,
         m.stock,
         m.price.0 as u64,
@@ -38,7 +37,7 @@ pub fn add_order(m: AddOrder, out: &mut [u64; 18])
 }
 
 pub fn add_order_mpid(m: AddOrderMpid, out: &mut [u64; 18])
-    ensures { λ _. ⌜ now (out .exit) ≡ shown (Message.AddOrderMpid m) ⌝ }
+    ensures { λ _. ⌜ now (out .exit) ≡ messageRow (Message.AddOrderMpid m) ⌝ }
 {
     let side = m.buy_sell_indicator;
     *out = [
@@ -47,7 +46,7 @@ pub fn add_order_mpid(m: AddOrderMpid, out: &mut [u64; 18])
         m.head.tracking_number as u64,
         m.head.timestamp,
         m.order_reference_number.0,
-        side_byte(side),
+        side.byte(),
         m.shares as u64,
         m.stock,
         m.price.0 as u64,
@@ -64,7 +63,7 @@ pub fn add_order_mpid(m: AddOrderMpid, out: &mut [u64; 18])
 }
 
 pub fn order_executed(m: OrderExecuted, out: &mut [u64; 18])
-    ensures { λ _. ⌜ now (out .exit) ≡ shown (Message.OrderExecuted m) ⌝ }
+    ensures { λ _. ⌜ now (out .exit) ≡ messageRow (Message.OrderExecuted m) ⌝ }
 {
     *out = [
         69,
@@ -89,7 +88,7 @@ pub fn order_executed(m: OrderExecuted, out: &mut [u64; 18])
 }
 
 pub fn order_executed_with_price(m: OrderExecutedWithPrice, out: &mut [u64; 18])
-    ensures { λ _. ⌜ now (out .exit) ≡ shown (Message.OrderExecutedWithPrice m) ⌝ }
+    ensures { λ _. ⌜ now (out .exit) ≡ messageRow (Message.OrderExecutedWithPrice m) ⌝ }
 {
     *out = [
         67,
@@ -114,7 +113,7 @@ pub fn order_executed_with_price(m: OrderExecutedWithPrice, out: &mut [u64; 18])
 }
 
 pub fn order_cancel(m: OrderCancel, out: &mut [u64; 18])
-    ensures { λ _. ⌜ now (out .exit) ≡ shown (Message.OrderCancel m) ⌝ }
+    ensures { λ _. ⌜ now (out .exit) ≡ messageRow (Message.OrderCancel m) ⌝ }
 {
     *out = [
         88,
@@ -139,7 +138,7 @@ pub fn order_cancel(m: OrderCancel, out: &mut [u64; 18])
 }
 
 pub fn order_delete(m: OrderDelete, out: &mut [u64; 18])
-    ensures { λ _. ⌜ now (out .exit) ≡ shown (Message.OrderDelete m) ⌝ }
+    ensures { λ _. ⌜ now (out .exit) ≡ messageRow (Message.OrderDelete m) ⌝ }
 {
     *out = [
         68,
@@ -164,7 +163,7 @@ pub fn order_delete(m: OrderDelete, out: &mut [u64; 18])
 }
 
 pub fn order_replace(m: OrderReplace, out: &mut [u64; 18])
-    ensures { λ _. ⌜ now (out .exit) ≡ shown (Message.OrderReplace m) ⌝ }
+    ensures { λ _. ⌜ now (out .exit) ≡ messageRow (Message.OrderReplace m) ⌝ }
 {
     *out = [
         85,

@@ -1,7 +1,7 @@
 // The messages about one stock, as rows of numbers.
 ghost use mathlib.Core.Path.{_≡_};
 ghost use Rattle.messages.specs.declared.Message.{Message};
-ghost use Rattle.numbers.specs.Shown.{shown};
+ghost use Rattle.numbers.specs.Shown.{messageRow};
 use messages::LuldAuctionCollar;
 use messages::MarketParticipantPosition;
 use messages::OperationalHalt;
@@ -11,7 +11,7 @@ use messages::StockDirectory;
 use messages::StockTradingAction;
 
 pub fn stock_directory(m: StockDirectory, out: &mut [u64; 18])
-    ensures { λ _. ⌜ now (out .exit) ≡ shown (Message.StockDirectory m) ⌝ }
+    ensures { λ _. ⌜ now (out .exit) ≡ messageRow (Message.StockDirectory m) ⌝ }
 {
     *out = [
         82,
@@ -36,7 +36,7 @@ pub fn stock_directory(m: StockDirectory, out: &mut [u64; 18])
 }
 
 pub fn stock_trading_action(m: StockTradingAction, out: &mut [u64; 18])
-    ensures { λ _. ⌜ now (out .exit) ≡ shown (Message.StockTradingAction m) ⌝ }
+    ensures { λ _. ⌜ now (out .exit) ≡ messageRow (Message.StockTradingAction m) ⌝ }
 {
     *out = [
         72,
@@ -61,7 +61,7 @@ pub fn stock_trading_action(m: StockTradingAction, out: &mut [u64; 18])
 }
 
 pub fn reg_sho_restriction(m: RegShoRestriction, out: &mut [u64; 18])
-    ensures { λ _. ⌜ now (out .exit) ≡ shown (Message.RegShoRestriction m) ⌝ }
+    ensures { λ _. ⌜ now (out .exit) ≡ messageRow (Message.RegShoRestriction m) ⌝ }
 {
     *out = [
         89,
@@ -86,7 +86,7 @@ pub fn reg_sho_restriction(m: RegShoRestriction, out: &mut [u64; 18])
 }
 
 pub fn market_participant_position(m: MarketParticipantPosition, out: &mut [u64; 18])
-    ensures { λ _. ⌜ now (out .exit) ≡ shown (Message.MarketParticipantPosition m) ⌝ }
+    ensures { λ _. ⌜ now (out .exit) ≡ messageRow (Message.MarketParticipantPosition m) ⌝ }
 {
     *out = [
         76,
@@ -111,7 +111,7 @@ pub fn market_participant_position(m: MarketParticipantPosition, out: &mut [u64;
 }
 
 pub fn quoting_period_update(m: QuotingPeriodUpdate, out: &mut [u64; 18])
-    ensures { λ _. ⌜ now (out .exit) ≡ shown (Message.QuotingPeriodUpdate m) ⌝ }
+    ensures { λ _. ⌜ now (out .exit) ≡ messageRow (Message.QuotingPeriodUpdate m) ⌝ }
 {
     *out = [
         75,
@@ -136,7 +136,7 @@ pub fn quoting_period_update(m: QuotingPeriodUpdate, out: &mut [u64; 18])
 }
 
 pub fn luld_auction_collar(m: LuldAuctionCollar, out: &mut [u64; 18])
-    ensures { λ _. ⌜ now (out .exit) ≡ shown (Message.LuldAuctionCollar m) ⌝ }
+    ensures { λ _. ⌜ now (out .exit) ≡ messageRow (Message.LuldAuctionCollar m) ⌝ }
 {
     *out = [
         74,
@@ -161,7 +161,7 @@ pub fn luld_auction_collar(m: LuldAuctionCollar, out: &mut [u64; 18])
 }
 
 pub fn operational_halt(m: OperationalHalt, out: &mut [u64; 18])
-    ensures { λ _. ⌜ now (out .exit) ≡ shown (Message.OperationalHalt m) ⌝ }
+    ensures { λ _. ⌜ now (out .exit) ≡ messageRow (Message.OperationalHalt m) ⌝ }
 {
     *out = [
         104,

@@ -1,18 +1,23 @@
 -- An order, the steps of its life, and the four numbers of a slot that hold it (01, 'The tables the desk lends', 'What each
 -- message does'). Assumes nothing.
 use Prim.Native.Nat.{ℕ, _+_, _-_, _*_, _/_, _%_}
+use mathlib.Core.Path.{_≡_}
 use mathlib.Core.Bool.{Bool, cond, _&&_}
 use lib.Dec.{eqb, leb, ltb}
 use Rattle.kinds.specs.Admission.{maximum}
+use Rattle.kinds.specs.Sides.{sideByte, sideOf, goodSide}
 use Rattle.text.specs.Text.{text}
-use Rattle.messages.specs.Numbers.{sideByte}
-use Rattle.messages.specs.Typed.{sideOf}
-use Rattle.wellformed.specs.WellFormed.{goodSide}
 use Rattle.orders.specs.declared.Order.{Order}
 use Rattle.orders.specs.declared.Held.{Held}
 use Rattle.orders.specs.declared.Held.the-variants.{Sound, Unsound}
 
 -- ---- a life
+
+-- an order of which nothing is gone yet
+pub record Intact (o : Order) : Type 0 where
+  pub executed : o .executed ≡ 0
+  pub cancelled : o .cancelled ≡ 0
+  pub closed : o .closed ≡ 0
 
 -- what remains of an order
 unfoldable pub remaining : Order → ℕ

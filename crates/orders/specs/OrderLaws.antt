@@ -1,23 +1,18 @@
 -- The laws of an order's life, for those who keep orders in slots: what a slot holds is sound, a sound order packed into a
 -- slot's numbers is held again, a step leaves a sound order or nothing, and no step loses a share. Assumes nothing.
 use mathlib.Core.Path.{_≡_, refl, ap, _∙_}
-use Prim.Native.Nat.{ℕ, _+_, _-_, _*_, _/_, _%_, _≤_, _<_}
+use Prim.Native.Nat.{ℕ, _+_, _-_, _/_, _%_, _≤_, _<_}
 use native.Mathlib.Omega.{arith}
-use mathlib.Core.Bool.{Bool, true, false, cond}
-use lib.Dec.{eqb}
-use borrow.Author.Tests.{eqb-true, eqb-false}
+use mathlib.Core.Bool.{true}
+use Rattle.laws.specs.Bools.{fault-none, none-fault}
 use Rattle.kinds.specs.Admission.{maximum}
-use Rattle.kinds.specs.declared.Side.{Side}
-use Rattle.kinds.specs.declared.Side.the-variants.{Buy, Sell}
+use Rattle.kinds.specs.Sides.{sideByte, goodSide}
+use Rattle.kinds.specs.SideLaws.{byte-good, byte-le, good-back, side-back}
 use Rattle.text.specs.Text.{text}
-use Rattle.messages.specs.Numbers.{sideByte}
-use Rattle.messages.specs.Typed.{sideOf}
-use Rattle.wellformed.specs.WellFormed.{goodSide}
 use Rattle.orders.specs.declared.Order.{Order}
-use Rattle.orders.specs.declared.Held.{Held}
 use Rattle.orders.specs.declared.Held.the-variants.{Sound}
 use Rattle.orders.specs.Order.{remaining, executedBy, cancelledBy, closedOf, second, third, fourth, orderOf, held}
-use Rattle.orders.specs.Soundness.{Passes, passes-held, held-passes, fault-none, none-fault, letter-side}
+use Rattle.orders.specs.Soundness.{Passes, passes-held, held-passes}
 
 -- ---- what a slot holds
 
@@ -44,7 +39,7 @@ held-sound n0 n1 n2 n3 o h =
       left = p .left;
       closed = refl;
       listed = p .locate;
-      side = letter-side _ (p .side);
+      side = p .side;
       worded = fault-none _ (p .attribution);
       remains = omega arith;
     })
@@ -56,14 +51,7 @@ unfolding orderOf second third fourth
 held-numbers n0 n1 n2 n3 o h =
     let p = held-passes n0 n1 n2 n3 o h .0 in
     let e = held-passes n0 n1 n2 n3 o h .1 in
-    rw e (refl, omega arith, omega arith, omega (arith, letter-back (n3 / 1099511627776 % 256) (p .side)))
-  where
-    letter-back : (v : ℕ) → v ≡ 66 + 17 * (v % 2) → sideByte (sideOf v) ≡ v
-    letter-back v e = go (eqb v 66) refl
-      where
-        go : (b : Bool) → eqb v 66 ≡ b → sideByte (cond b Buy Sell) ≡ v
-        go true q = omega (arith, eqb-true v 66 q)
-        go false q = omega (arith, eqb-false v 66 q)
+    rw e (refl, omega arith, omega arith, omega (arith, good-back (n3 / 1099511627776 % 256) (p .side)))
 
 -- ---- orders that a slot can hold
 
@@ -113,18 +101,6 @@ fresh-fit o price some added executed cancelled closed listed locate attribution
 
 -- ---- a fit order, packed, is held again
 
-letter-small : (s : Side) → sideByte s < 256
-letter-small Buy = omega arith
-letter-small Sell = omega arith
-
-letter-good : (s : Side) → sideByte s ≡ 66 + 17 * (sideByte s % 2)
-letter-good Buy = refl
-letter-good Sell = refl
-
-side-again : (s : Side) → sideOf (sideByte s) ≡ s
-side-again Buy = refl
-side-again Sell = refl
-
 module _ (o : Order) (f : Fit o) where
   price-back : second o / 4294967296 ≡ o .price .0
   unfolding second
@@ -144,15 +120,15 @@ module _ (o : Order) (f : Fit o) where
 
   locate-back : fourth o / 281474976710656 ≡ o .locate .0
   unfolding fourth
-  locate-back = omega (arith, letter-small (o .side))
+  locate-back = omega (arith, byte-le (o .side))
 
-  side-back : fourth o / 1099511627776 % 256 ≡ sideByte (o .side)
+  byte-back : fourth o / 1099511627776 % 256 ≡ sideByte (o .side)
   unfolding fourth
-  side-back = omega (arith, letter-small (o .side))
+  byte-back = omega (arith, byte-le (o .side))
 
   attribution-back : fourth o / 256 % 4294967296 ≡ o .attribution
   unfolding fourth
-  attribution-back = omega (arith, letter-small (o .side))
+  attribution-back = omega (arith, byte-le (o .side))
 
   low-back : fourth o % 256 ≡ 0
   unfolding fourth
@@ -162,7 +138,7 @@ module _ (o : Order) (f : Fit o) where
   passes-again = record {
     price = rw price-back (f .price);
     locate = rw locate-back (f .listed);
-    side = rw side-back (letter-good (o .side));
+    side = rw byte-back (byte-good (o .side));
     attribution = rw attribution-back (none-fault (text 4 (o .attribution)) (f .worded));
     low = low-back;
     left = rw (executed-back, cancelled-back, added-back) (f .left);
@@ -171,8 +147,8 @@ module _ (o : Order) (f : Fit o) where
   order-again : orderOf (o .reference .0) (second o) (third o) (fourth o) ≡ o
   unfolding orderOf
   order-again =
-      rw (price-back, added-back, executed-back, cancelled-back, locate-back, side-back, attribution-back)
-      (rw (side-again (o .side), f .closed))
+      rw (price-back, added-back, executed-back, cancelled-back, locate-back, byte-back, attribution-back)
+      (rw (side-back (o .side), f .closed))
 
   pub held-again : held (o .reference .0) (second o) (third o) (fourth o) ≡ Sound o
   held-again = passes-held (o .reference .0) (second o) (third o) (fourth o) passes-again ∙ ap Sound order-again
@@ -219,15 +195,17 @@ cancelled-again o n f l = record {
   worded = f .worded;
 }
 
+-- no more is gone than was added, after all that remains is closed
+pub closed-fits : (o x : Order) → o .executed + o .cancelled + o .closed ≤ o .added → x ≡ closedOf o
+    → x .executed + x .cancelled + x .closed ≤ x .added
+unfolding closedOf remaining
+closed-fits o x l e = rw e (omega arith)
+
 -- ---- no share is lost
 
 -- the added shares are the executed, the cancelled, the closed and what remains
 unfoldable pub Conserved : Order → Type 0
 Conserved o = o .added ≡ o .executed + o .cancelled + o .closed + remaining o
-
-pub fit-conserved : (o : Order) → Fit o → Conserved o
-unfolding Conserved remaining
-fit-conserved o f = omega arith
 
 pub executed-conserved : (o : Order) (n : ℕ) → Conserved o → n ≤ remaining o → Conserved (executedBy o n)
 unfolding Conserved remaining executedBy

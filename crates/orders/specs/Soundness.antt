@@ -2,54 +2,22 @@
 -- its order, and one that does not holds none. Assumes nothing.
 use mathlib.Core.Path.{_≡_, refl}
 use mathlib.Core.Bool.{Bool, true, false, cond, _&&_}
-use Prim.Native.Nat.{ℕ, _+_, _*_, _/_, _%_, _≤_, _<_}
+use Prim.Native.Nat.{ℕ, _+_, _/_, _%_, _≤_, _<_}
 use native.Mathlib.Omega.{arith}
 use lib.Dec.{eqb, leb, ltb}
-use borrow.Author.Tests.{le-leb, lt-ltb, eq-eqb, ne-eqb, leb-true, leb-false, ltb-true, eqb-true, eqb-false}
-use Rattle.laws.specs.Bools.{fault, and-left, and-right}
+use borrow.Author.Tests.{le-leb, lt-ltb, eq-eqb, leb-true, leb-false, ltb-true, eqb-true}
+use Rattle.laws.specs.Bools.{fault, and-left, and-right, fault-none, none-fault}
 use Rattle.kinds.specs.Admission.{maximum, admission}
 use Rattle.kinds.specs.declared.Price.{Price}
-use Rattle.kinds.specs.declared.Side.the-variants.{Buy, Sell}
-use Rattle.kinds.specs.declared.Admission.{Admission}
 use Rattle.kinds.specs.declared.Admission.the-variants.{Admitted, TooHigh}
+use Rattle.kinds.specs.Sides.{goodSide}
 use Rattle.text.specs.Text.{text}
-use Rattle.messages.specs.Typed.{sideOf}
-use Rattle.wellformed.specs.WellFormed.{goodSide}
-use Rattle.wellformed.specs.Faults.{side-is, side-is-not}
 use Rattle.orders.specs.declared.Order.{Order}
-use Rattle.orders.specs.declared.Held.{Held}
 use Rattle.orders.specs.declared.Held.the-variants.{Sound, Unsound}
 use Rattle.orders.specs.Order.{sound, orderOf, held}
 
--- ---- tests as numbers
+-- ---- what a number offered as a price came to
 
-pub fault-none : (b : Bool) → fault b ≡ 0 → b ≡ true
-unfolding fault
-fault-none true e = refl
-fault-none false e = absurd (omega arith)
-
-pub none-fault : (b : Bool) → b ≡ true → fault b ≡ 0
-unfolding fault
-none-fault b e = rw e
-
--- B or S, by the test that the code makes of both letters at once
-pub side-letter : (v : ℕ) → goodSide v ≡ true → v ≡ 66 + 17 * (v % 2)
-side-letter v g = go (eqb v (66 + 17 * (v % 2))) refl
-  where
-    go : (b : Bool) → eqb v (66 + 17 * (v % 2)) ≡ b → v ≡ 66 + 17 * (v % 2)
-    go true p = eqb-true v (66 + 17 * (v % 2)) p
-    go false p = absurd (omega (arith, none-fault (goodSide v) g, side-is-not v (eqb-false v (66 + 17 * (v % 2)) p)))
-
-pub letter-side : (v : ℕ) → v ≡ 66 + 17 * (v % 2) → goodSide v ≡ true
-letter-side v e = fault-none (goodSide v) (side-is v e)
-
-pub buys : (v : ℕ) → v ≡ 66 → sideOf v ≡ Buy
-buys v e = rw (eq-eqb v 66 e)
-
-pub sells : (v : ℕ) → (v ≡ 66 → ⊥) → sideOf v ≡ Sell
-sells v n = rw (ne-eqb v 66 n)
-
--- what a number offered as a price came to
 pub admitted : (v : ℕ) (p : Price) → Admitted p ≡ admission v → (v ≤ maximum) × (p ≡ record { 0 = v })
 unfolding admission
 admitted v p = go (leb v maximum) refl
@@ -58,9 +26,9 @@ admitted v p = go (leb v maximum) refl
     go true q e = (leb-true v maximum q, cc)
     go false q e = let z : _≡_ {A = ℕ} 0 1 = cc in absurd (omega arith)
 
-pub refused : (v : ℕ) → TooHigh ≡ admission v → maximum < v
+pub not-admitted : (v : ℕ) → TooHigh ≡ admission v → maximum < v
 unfolding admission
-refused v = go (leb v maximum) refl
+not-admitted v = go (leb v maximum) refl
   where
     go : (b : Bool) → leb v maximum ≡ b → TooHigh ≡ cond b (Admitted (record { 0 = v })) TooHigh → maximum < v
     go true q e = let z : _≡_ {A = ℕ} 0 1 = cc in absurd (omega arith)
@@ -71,7 +39,7 @@ refused v = go (leb v maximum) refl
 pub record Passes (n1 n2 n3 : ℕ) : Type 0 where
   pub price : n1 / 4294967296 ≤ maximum
   pub locate : 1 ≤ n3 / 281474976710656
-  pub side : n3 / 1099511627776 % 256 ≡ 66 + 17 * (n3 / 1099511627776 % 256 % 2)
+  pub side : goodSide (n3 / 1099511627776 % 256) ≡ true
   pub attribution : fault (text 4 (n3 / 256 % 4294967296)) ≡ 0
   pub low : n3 % 256 ≡ 0
   pub left : n2 / 4294967296 + n2 % 4294967296 < n1 % 4294967296
@@ -80,7 +48,7 @@ module _ (n1 n2 n3 : ℕ) where
   passes-sound : Passes n1 n2 n3 → sound n1 n2 n3 ≡ true
   unfolding sound
   passes-sound p =
-      rw (le-leb _ _ (p .price), le-leb _ _ (p .locate), letter-side _ (p .side), fault-none _ (p .attribution), eq-eqb _ _ (p .low), lt-ltb _ _ (p .left))
+      rw (le-leb _ _ (p .price), le-leb _ _ (p .locate), p .side, fault-none _ (p .attribution), eq-eqb _ _ (p .low), lt-ltb _ _ (p .left))
 
   sound-passes : sound n1 n2 n3 ≡ true → Passes n1 n2 n3
   unfolding sound
@@ -100,7 +68,7 @@ module _ (n1 n2 n3 : ℕ) where
       record {
         price = leb-true _ _ (and-left t1 (t2 && (t3 && (t4 && (t5 && t6)))) e1);
         locate = leb-true _ _ (and-left t2 (t3 && (t4 && (t5 && t6))) e2);
-        side = side-letter side (and-left t3 (t4 && (t5 && t6)) e3);
+        side = and-left t3 (t4 && (t5 && t6)) e3;
         attribution = none-fault t4 (and-left t4 (t5 && t6) e4);
         low = eqb-true _ _ (and-left t5 t6 e5);
         left = ltb-true _ _ (and-right t5 t6 e5);

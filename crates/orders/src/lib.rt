@@ -2,8 +2,6 @@
 ghost use mathlib.Core.Path.{_≡_};
 ghost use Prim.Native.Nat.{_+_, _≤_, _<_};
 ghost use Rattle.laws.specs.Bools.{fault};
-ghost use Rattle.messages.specs.Numbers.{sideByte};
-ghost use Rattle.messages.specs.Typed.{sideOf};
 ghost use Rattle.text.specs.Text.{text};
 ghost use Rattle.orders.specs.Order.{cancelledBy, closedOf, executedBy, fourth, held, remaining, second, third};
 use kinds::Admission;
@@ -87,25 +85,9 @@ impl Order {
     {
         let locate = self.locate;
         let side = self.side;
-        let b = side_byte(side);
+        let b = side.byte();
         (locate.0 as u64) * 281474976710656 + b * 1099511627776 + (self.attribution as u64) * 256
     }
-}
-
-// The byte of a side, B or S.
-pub fn side_byte(s: Side) -> u64
-    ensures { λ r. ⌜ (r ≡ sideByte s) × (r ≤ 83) ⌝ }
-{
-    match s {
-        Side::Buy => 66,
-        Side::Sell => 83,
-    }
-}
-
-fn side_of(b: u64) -> Side
-    ensures { λ r. ⌜ r ≡ sideOf b ⌝ }
-{
-    if b == 66 { Side::Buy } else { Side::Sell }
 }
 
 // NSDQ, which most orders have, is known by one compare.
@@ -115,7 +97,7 @@ fn attribution_fault(a: u32) -> u64
     if a == 0x4e534451 { 0 } else { text::text4(a) }
 }
 
-// What a live slot with these numbers holds. B is 66 and even, S is 83 and odd: one test for both does not branch on which it is.
+// What a live slot with these numbers holds.
 pub fn hold(n0: u64, n1: u64, n2: u64, n3: u64) -> Held
     ensures { λ r. ⌜ r ≡ held n0 n1 n2 n3 ⌝ }
 {
@@ -131,7 +113,8 @@ pub fn hold(n0: u64, n1: u64, n2: u64, n3: u64) -> Held
     if locate == 0 {
         return Held::Unsound;
     }
-    if byte != 66 + 17 * (byte % 2) {
+    let sided = Side::good(byte);
+    if !sided {
         return Held::Unsound;
     }
     if n3 % 256 != 0 {
@@ -151,7 +134,7 @@ pub fn hold(n0: u64, n1: u64, n2: u64, n3: u64) -> Held
         cancelled: cancelled as u32,
         closed: 0,
         locate: Locate(locate as u16),
-        side: side_of(byte),
+        side: Side::of(byte),
         attribution,
     })
 }

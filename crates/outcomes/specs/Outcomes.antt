@@ -2,25 +2,18 @@
 -- gives them for every case. Assumes nothing.
 use Prim.Native.Nat.{ℕ}
 use mathlib.Core.List.{List, [], _∷_}
-use Rattle.messages.specs.Numbers.{sideByte}
+use Rattle.kinds.specs.Sides.{sideByte}
 use Rattle.decide.specs.declared.Figures.{Figures}
-use Rattle.numbers.specs.Shown.{padded, shown}
+use Rattle.numbers.specs.Shown.{padded, messageRow}
 use Rattle.apply.specs.declared.Outcome.{Outcome}
 use Rattle.apply.specs.declared.Outcome.the-variants.{Refused, Accepted, Moved, Replaced}
-
--- 01's number of an outcome
-abbrev pub numberOf : Outcome → ℕ
-numberOf (Refused r) = r .number
-numberOf (Accepted m) = 0
-numberOf (Moved m f) = 0
-numberOf (Replaced m f g) = 0
 
 -- the type byte and the fields of the message: all 0 for a refusal
 abbrev pub rowOf : Outcome → List ℕ
 rowOf (Refused r) = padded 18 []
-rowOf (Accepted m) = shown m
-rowOf (Moved m f) = shown m
-rowOf (Replaced m f g) = shown m
+rowOf (Accepted m) = messageRow m
+rowOf (Moved m f) = messageRow m
+rowOf (Replaced m f g) = messageRow m
 
 -- an order's locate, side, price, the shares taken or put, and what then remains; and the numbers behind them
 abbrev pub figured : Figures → List ℕ → List ℕ

@@ -3,8 +3,9 @@
 // U the same of the order that starts.
 ghost use mathlib.Core.List.{[]};
 ghost use mathlib.Core.Path.{_≡_};
+ghost use Rattle.apply.specs.Apply.{numberOf};
 ghost use Rattle.numbers.specs.Shown.{padded};
-ghost use Rattle.outcomes.specs.Outcomes.{figured, numberOf, orderRow, rowOf};
+ghost use Rattle.outcomes.specs.Outcomes.{figured, orderRow, rowOf};
 use apply::Outcome;
 use decide::Figures;
 
@@ -17,7 +18,7 @@ fn one(f: Figures, figures: &mut [u64; 10])
     let price = f.price;
     *figures = [
         locate.0 as u64,
-        numbers::side_byte(side),
+        side.byte(),
         price.0 as u64,
         f.shares as u64,
         f.remains as u64,
@@ -41,12 +42,12 @@ fn two(f: Figures, g: Figures, figures: &mut [u64; 10])
     let next_price = g.price;
     *figures = [
         locate.0 as u64,
-        numbers::side_byte(side),
+        side.byte(),
         price.0 as u64,
         f.shares as u64,
         f.remains as u64,
         next_locate.0 as u64,
-        numbers::side_byte(next_side),
+        next_side.byte(),
         next_price.0 as u64,
         g.shares as u64,
         g.remains as u64,

@@ -1,33 +1,37 @@
-// A message read but not yet judged: what its fields hold, and the weight of what is wrong with them. It knows no layout.
+// A message read but not yet judged: what its fields hold, and their faults, added up. It knows no layout.
 ghost use mathlib.Core.Path.{_≡_};
-ghost use Rattle.parsed.specs.Parsed.{judged};
+ghost use Rattle.parsed.specs.Parsed.{answerOf};
 use messages::Answer;
 use messages::Message;
-use messages::Refusal;
+use refusals::FIELD;
+use refusals::PRICE;
+use refusals::Refusal;
+use refusals::SHARES;
+use refusals::TIME;
 
 pub struct Parsed {
-    pub weight: u64,
+    pub faults: u64,
     pub message: Message,
 }
 
-// The message where nothing is wrong with it, else the refusal that the weight shows.
+// The message where nothing is wrong with it, else the refusal that its faults show.
 pub fn judge(p: Parsed) -> Answer
-    ensures { λ r. ⌜ r ≡ judged p ⌝ }
+    ensures { λ r. ⌜ r ≡ answerOf p ⌝ }
 {
-    let w = p.weight;
+    let w = p.faults;
     let m = p.message;
     if w == 0 {
         return Answer::Good(m);
     }
     if 512 <= w {
-        return Answer::Refused(Refusal { number: 3 });
+        return Answer::Refused(Refusal::of(TIME));
     }
     if 16 <= w {
-        return Answer::Refused(Refusal { number: 4 });
+        return Answer::Refused(Refusal::of(FIELD));
     }
     if 2 <= w {
-        Answer::Refused(Refusal { number: 5 })
+        Answer::Refused(Refusal::of(PRICE))
     } else {
-        Answer::Refused(Refusal { number: 6 })
+        Answer::Refused(Refusal::of(SHARES))
     }
 }

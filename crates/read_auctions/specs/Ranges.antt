@@ -5,12 +5,12 @@ use mathlib.Core.List.{List}
 use Rattle.laws.specs.Bools.{fault}
 use Rattle.laws.specs.Field.{field}
 use Rattle.wellformed.specs.WellFormed.{goodPrice}
-use Rattle.wellformed.specs.Weight.{priceHeld}
+use Rattle.wellformed.specs.FaultSum.{priceHeld}
 use Rattle.read_auctions.specs.declared.Ranges.{Ranges}
 
--- the weight of the price at a place
-abbrev pub priceWeight : List ℕ → ℕ → ℕ
-priceWeight s at = 2 * fault (goodPrice (field s at 4))
+-- the faults of the price at a place
+abbrev pub priceFaults : List ℕ → ℕ → ℕ
+priceFaults s at = 2 * fault (goodPrice (field s at 4))
 
 pub record AreRanges (s : List ℕ) (r : Ranges) : Type 0 where
   pub minimum : r .«minimum_allowable_price» .0 ≡ priceHeld (field s 20 4)
@@ -19,5 +19,5 @@ pub record AreRanges (s : List ℕ) (r : Ranges) : Type 0 where
   pub time : r .«near_execution_time» ≡ field s 32 8
   pub lower : r .«lower_price_range_collar» .0 ≡ priceHeld (field s 40 4)
   pub upper : r .«upper_price_range_collar» .0 ≡ priceHeld (field s 44 4)
-  pub weight : r .weight ≡ priceWeight s 20 + priceWeight s 24 + priceWeight s 28 + priceWeight s 40 + priceWeight s 44
-  pub small : r .weight ≤ 10
+  pub faults : r .faults ≡ priceFaults s 20 + priceFaults s 24 + priceFaults s 28 + priceFaults s 40 + priceFaults s 44
+  pub small : r .faults ≤ 10

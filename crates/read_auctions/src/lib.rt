@@ -1,5 +1,5 @@
-// The messages about auctions and retail interest: I, N, O. Each is read at fixed offsets and weighed,
-// and proved against its row of the table of fields. Plain fields are read first, which keeps what is weighed in the prover's reach.
+// The messages about auctions and retail interest: I, N, O. Each is read at fixed offsets and checked,
+// and proved against its row of the table of fields. Plain fields are read first, which keeps what is checked in the prover's reach.
 ghost use mathlib.Core.Path.{_≡_};
 ghost use lib.ListN.{length};
 ghost use Rattle.parsed.specs.Parsed.{IsParsed};
@@ -19,7 +19,7 @@ struct Ranges {
     near_execution_time: u64,
     lower_price_range_collar: Price,
     upper_price_range_collar: Price,
-    weight: u64,
+    faults: u64,
 }
 
 fn ranges_at(s: &[u8]) -> Ranges
@@ -41,7 +41,7 @@ fn ranges_at(s: &[u8]) -> Ranges
         near_execution_time,
         lower_price_range_collar,
         upper_price_range_collar,
-        weight: three.weight + two.weight,
+        faults: three.faults + two.faults,
     }
 }
 
@@ -63,7 +63,7 @@ pub fn net_order_imbalance(s: &[u8]) -> Parsed
     let cross_type = wire::u8_at(s, 48);
     let price_variation_indicator = wire::u8_at(s, 49);
     Parsed {
-        weight: h.weight + stock.weight + three.weight,
+        faults: h.faults + stock.faults + three.faults,
         message: Message::NetOrderImbalance(NetOrderImbalance {
             head,
             paired_shares,
@@ -89,7 +89,7 @@ pub fn retail_interest(s: &[u8]) -> Parsed
     let head = h.head;
     let stock = checked::text8_at(s, 11);
     Parsed {
-        weight: h.weight + stock.weight,
+        faults: h.faults + stock.faults,
         message: Message::RetailInterest(RetailInterest {
             head,
             stock: stock.text,
@@ -114,7 +114,7 @@ pub fn direct_listing(s: &[u8]) -> Parsed
     let head = h.head;
     let stock = checked::text8_at(s, 11);
     Parsed {
-        weight: h.weight + stock.weight + ranges.weight,
+        faults: h.faults + stock.faults + ranges.faults,
         message: Message::DirectListing(DirectListing {
             head,
             stock: stock.text,

@@ -1,5 +1,5 @@
-// The messages about the market, and trades: S, V, W, P, Q, B. Each is read at fixed offsets and weighed,
-// and proved against its row of the table of fields. Plain fields are read first, which keeps what is weighed in the prover's reach.
+// The messages about the market, and trades: S, V, W, P, Q, B. Each is read at fixed offsets and checked,
+// and proved against its row of the table of fields. Plain fields are read first, which keeps what is checked in the prover's reach.
 ghost use mathlib.Core.Path.{_≡_};
 ghost use lib.ListN.{length};
 ghost use Rattle.parsed.specs.Parsed.{IsParsed};
@@ -22,7 +22,7 @@ pub fn system_event(s: &[u8]) -> Parsed
     let h = checked::head_at(s);
     let head = h.head;
     Parsed {
-        weight: h.weight,
+        faults: h.faults,
         message: Message::SystemEvent(SystemEvent { head, event_code }),
     }
 }
@@ -38,7 +38,7 @@ pub fn mwcb_decline_level(s: &[u8]) -> Parsed
     let h = checked::head_at(s);
     let head = h.head;
     Parsed {
-        weight: h.weight,
+        faults: h.faults,
         message: Message::MwcbDeclineLevel(MwcbDeclineLevel {
             head,
             level_1,
@@ -57,7 +57,7 @@ pub fn mwcb_status(s: &[u8]) -> Parsed
     let h = checked::head_at(s);
     let head = h.head;
     Parsed {
-        weight: h.weight,
+        faults: h.faults,
         message: Message::MwcbStatus(MwcbStatus {
             head,
             breached_level,
@@ -81,7 +81,7 @@ pub fn trade(s: &[u8]) -> Parsed
     let paid = checked::price_at(s, 32);
     let price = paid.price;
     Parsed {
-        weight: h.weight + side.weight + stock.weight + paid.weight,
+        faults: h.faults + side.faults + stock.faults + paid.faults,
         message: Message::Trade(Trade {
             head,
             order_reference_number,
@@ -108,7 +108,7 @@ pub fn cross_trade(s: &[u8]) -> Parsed
     let paid = checked::price_at(s, 27);
     let cross_price = paid.price;
     Parsed {
-        weight: h.weight + stock.weight + paid.weight,
+        faults: h.faults + stock.faults + paid.faults,
         message: Message::CrossTrade(CrossTrade {
             head,
             shares,
@@ -129,7 +129,7 @@ pub fn broken_trade(s: &[u8]) -> Parsed
     let h = checked::head_at(s);
     let head = h.head;
     Parsed {
-        weight: h.weight,
+        faults: h.faults,
         message: Message::BrokenTrade(BrokenTrade { head, match_number }),
     }
 }

@@ -1,5 +1,5 @@
-// The seven messages that move orders: A, F, E, C, X, D, U. Each is read at fixed offsets and weighed,
-// and proved against its row of the table of fields. Plain fields are read first, which keeps what is weighed in the prover's reach.
+// The seven messages that move orders: A, F, E, C, X, D, U. Each is read at fixed offsets and checked,
+// and proved against its row of the table of fields. Plain fields are read first, which keeps what is checked in the prover's reach.
 ghost use mathlib.Core.Path.{_≡_};
 ghost use lib.ListN.{length};
 ghost use Rattle.parsed.specs.Parsed.{IsParsed};
@@ -28,7 +28,7 @@ pub fn add_order(s: &[u8]) -> Parsed
     let paid = checked::price_at(s, 32);
     let price = paid.price;
     Parsed {
-        weight: h.weight + lot.weight + stock.weight + paid.weight,
+        faults: h.faults + lot.faults + stock.faults + paid.faults,
         message: Message::AddOrder(AddOrder {
             head,
             order_reference_number,
@@ -55,7 +55,7 @@ pub fn add_order_mpid(s: &[u8]) -> Parsed
     let price = paid.price;
     let attribution = checked::text4_at(s, 36);
     Parsed {
-        weight: h.weight + lot.weight + stock.weight + paid.weight + attribution.weight,
+        faults: h.faults + lot.faults + stock.faults + paid.faults + attribution.faults,
         message: Message::AddOrderMpid(AddOrderMpid {
             head,
             order_reference_number,
@@ -79,7 +79,7 @@ pub fn order_executed(s: &[u8]) -> Parsed
     let head = h.head;
     let shares = checked::shares_at(s, 19);
     Parsed {
-        weight: h.weight + shares.weight,
+        faults: h.faults + shares.faults,
         message: Message::OrderExecuted(OrderExecuted {
             head,
             order_reference_number,
@@ -103,7 +103,7 @@ pub fn order_executed_with_price(s: &[u8]) -> Parsed
     let paid = checked::price_at(s, 32);
     let execution_price = paid.price;
     Parsed {
-        weight: h.weight + shares.weight + shown.weight + paid.weight,
+        faults: h.faults + shares.faults + shown.faults + paid.faults,
         message: Message::OrderExecutedWithPrice(OrderExecutedWithPrice {
             head,
             order_reference_number,
@@ -125,7 +125,7 @@ pub fn order_cancel(s: &[u8]) -> Parsed
     let head = h.head;
     let shares = checked::shares_at(s, 19);
     Parsed {
-        weight: h.weight + shares.weight,
+        faults: h.faults + shares.faults,
         message: Message::OrderCancel(OrderCancel {
             head,
             order_reference_number,
@@ -143,7 +143,7 @@ pub fn order_delete(s: &[u8]) -> Parsed
     let h = checked::head_at(s);
     let head = h.head;
     Parsed {
-        weight: h.weight,
+        faults: h.faults,
         message: Message::OrderDelete(OrderDelete {
             head,
             order_reference_number,
@@ -164,7 +164,7 @@ pub fn order_replace(s: &[u8]) -> Parsed
     let paid = checked::price_at(s, 31);
     let price = paid.price;
     Parsed {
-        weight: h.weight + shares.weight + paid.weight,
+        faults: h.faults + shares.faults + paid.faults,
         message: Message::OrderReplace(OrderReplace {
             head,
             original_order_reference_number,

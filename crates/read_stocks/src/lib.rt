@@ -1,5 +1,5 @@
-// The messages about one stock: R, H, Y, L, K, J, h. Each is read at fixed offsets and weighed,
-// and proved against its row of the table of fields. Plain fields are read first, which keeps what is weighed in the prover's reach.
+// The messages about one stock: R, H, Y, L, K, J, h. Each is read at fixed offsets and checked,
+// and proved against its row of the table of fields. Plain fields are read first, which keeps what is checked in the prover's reach.
 ghost use mathlib.Core.Path.{_≡_};
 ghost use lib.ListN.{length};
 ghost use Rattle.parsed.specs.Parsed.{IsParsed};
@@ -73,7 +73,7 @@ pub fn stock_directory(s: &[u8]) -> Parsed
     let head = h.head;
     let stock = checked::text8_at(s, 11);
     Parsed {
-        weight: h.weight + stock.weight,
+        faults: h.faults + stock.faults,
         message: Message::StockDirectory(StockDirectory {
             head,
             stock: stock.text,
@@ -106,7 +106,7 @@ pub fn stock_trading_action(s: &[u8]) -> Parsed
     let head = h.head;
     let stock = checked::text8_at(s, 11);
     Parsed {
-        weight: h.weight + stock.weight,
+        faults: h.faults + stock.faults,
         message: Message::StockTradingAction(StockTradingAction {
             head,
             stock: stock.text,
@@ -127,7 +127,7 @@ pub fn reg_sho_restriction(s: &[u8]) -> Parsed
     let head = h.head;
     let stock = checked::text8_at(s, 11);
     Parsed {
-        weight: h.weight + stock.weight,
+        faults: h.faults + stock.faults,
         message: Message::RegShoRestriction(RegShoRestriction {
             head,
             stock: stock.text,
@@ -149,7 +149,7 @@ pub fn market_participant_position(s: &[u8]) -> Parsed
     let mpid = checked::text4_at(s, 11);
     let stock = checked::text8_at(s, 15);
     Parsed {
-        weight: h.weight + mpid.weight + stock.weight,
+        faults: h.faults + mpid.faults + stock.faults,
         message: Message::MarketParticipantPosition(MarketParticipantPosition {
             head,
             mpid: mpid.text,
@@ -174,7 +174,7 @@ pub fn quoting_period_update(s: &[u8]) -> Parsed
     let paid = checked::price_at(s, 24);
     let ipo_price = paid.price;
     Parsed {
-        weight: h.weight + stock.weight + paid.weight,
+        faults: h.faults + stock.faults + paid.faults,
         message: Message::QuotingPeriodUpdate(QuotingPeriodUpdate {
             head,
             stock: stock.text,
@@ -199,7 +199,7 @@ pub fn luld_auction_collar(s: &[u8]) -> Parsed
     let upper_auction_collar_price = three.second;
     let lower_auction_collar_price = three.third;
     Parsed {
-        weight: h.weight + stock.weight + three.weight,
+        faults: h.faults + stock.faults + three.faults,
         message: Message::LuldAuctionCollar(LuldAuctionCollar {
             head,
             stock: stock.text,
@@ -222,7 +222,7 @@ pub fn operational_halt(s: &[u8]) -> Parsed
     let head = h.head;
     let stock = checked::text8_at(s, 11);
     Parsed {
-        weight: h.weight + stock.weight,
+        faults: h.faults + stock.faults,
         message: Message::OperationalHalt(OperationalHalt {
             head,
             stock: stock.text,

@@ -11,9 +11,9 @@ use borrow.Author.Tests.{eqb-true, eq-eqb}
 use lib.Dec.{eqb}
 use Rattle.laws.specs.Bools.{true-not-false}
 use Rattle.layout.specs.Kind.{Kind, Cell}
-use Rattle.layout.specs.Kind.Kind.{number, time, shares, price4, price8, text as texts, side, printable, code, alpha, reserved}
+use Rattle.layout.specs.Kind.Kind.{number, time, shares, price4, price8, texts, side, printable, code, alpha, reserved}
 use Rattle.wellformed.specs.WellFormed.{good, earns, valueAt, wrong, faulty, refusal}
-use Rattle.read_theorems.specs.Statements.{AtFault, First, AllGood}
+use Rattle.read_theorems.specs.Statements.{AtFault, FirstFault, AllGood}
 
 -- a field that is not well formed earns 3 to 6
 earned-some : (k : Kind) (w v : ℕ) → good k w v ≡ false → (3 ≤ earns k) × (earns k ≤ 6)
@@ -66,9 +66,9 @@ faulty-means n s cs = (found n s cs, λ f. shown n s (f .among) (rw (eq-eqb _ _ 
 -- ---- the first refusal
 
 -- what a refusal n says of the fields
-pub data Found (s : List ℕ) (cs : List Cell) (n : ℕ) : Type 0 where
-  none : n ≡ 0 → AllGood s cs → Found s cs n
-  first : First s cs n → Found s cs n
+pub data FoundFault (s : List ℕ) (cs : List Cell) (n : ℕ) : Type 0 where
+  no-fault : n ≡ 0 → AllGood s cs → FoundFault s cs n
+  first-fault : FirstFault s cs n → FoundFault s cs n
 
 -- no field earns a refusal below n
 abbrev Clear : List ℕ → List Cell → ℕ → Type 0
@@ -93,7 +93,7 @@ clear-all s cs h c m = go (good (c .kind) (c .width) (valueAt s c)) refl
         let r = earned-some (c .kind) (c .width) (valueAt s c) e in
         absurd (h (earns (c .kind)) (omega arith) (record { cell = c; among = m; earned = refl; bad = e }))
 
-pub refusal-found : (s : List ℕ) (cs : List Cell) → Found s cs (refusal s cs)
+pub refusal-found : (s : List ℕ) (cs : List Cell) → FoundFault s cs (refusal s cs)
 unfolding refusal
 refusal-found s cs =
     go (faulty 3 s cs) refl (faulty 4 s cs) refl (faulty 5 s cs) refl (faulty 6 s cs) refl
@@ -107,23 +107,23 @@ refusal-found s cs =
     six : faulty 3 s cs ≡ false → faulty 4 s cs ≡ false → faulty 5 s cs ≡ false → Clear s cs 6
     six e d f = clear-next s cs 5 (five e d) f
 
-    at : (n : ℕ) → faulty n s cs ≡ true → Clear s cs n → Found s cs n
-    at n e h = first (record { fault = found n s cs e; before = h })
+    at : (n : ℕ) → faulty n s cs ≡ true → Clear s cs n → FoundFault s cs n
+    at n e h = first-fault (record { fault = found n s cs e; before = h })
 
     go : (a : Bool) → faulty 3 s cs ≡ a → (b : Bool) → faulty 4 s cs ≡ b → (c : Bool) → faulty 5 s cs ≡ c → (d : Bool) → faulty 6 s cs ≡ d
-        → Found s cs (cond a 3 (cond b 4 (cond c 5 (cond d 6 0))))
+        → FoundFault s cs (cond a 3 (cond b 4 (cond c 5 (cond d 6 0))))
     go true p b q c r d t = at 3 p (clear-three s cs)
     go false p true q c r d t = at 4 q (four p)
     go false p false q true r d t = at 5 r (five p q)
     go false p false q false r true t = at 6 t (six p q r)
-    go false p false q false r false t = none refl (clear-all s cs (clear-next s cs 6 (six p q r) t))
+    go false p false q false r false t = no-fault refl (clear-all s cs (clear-next s cs 6 (six p q r) t))
 
 -- no other number says it
-pub found-unique : {s : List ℕ} {cs : List Cell} {m n : ℕ} → Found s cs m → Found s cs n → m ≡ n
-found-unique (none p a) (none q b) = p ∙ sym q
-found-unique (none p a) (first g) = absurd (true-not-false _ (a (g .fault .cell) (g .fault .among)) (g .fault .bad))
-found-unique (first f) (none q b) = absurd (true-not-false _ (b (f .fault .cell) (f .fault .among)) (f .fault .bad))
-found-unique {m = m} {n = n} (first f) (first g) = elim (decLt m n) [ yes l ↦ absurd (g .before m l (f .fault)) | no h ↦ least h ]
+pub found-unique : {s : List ℕ} {cs : List Cell} {m n : ℕ} → FoundFault s cs m → FoundFault s cs n → m ≡ n
+found-unique (no-fault p a) (no-fault q b) = p ∙ sym q
+found-unique (no-fault p a) (first-fault g) = absurd (true-not-false _ (a (g .fault .cell) (g .fault .among)) (g .fault .bad))
+found-unique (first-fault f) (no-fault q b) = absurd (true-not-false _ (b (f .fault .cell) (f .fault .among)) (f .fault .bad))
+found-unique {m = m} {n = n} (first-fault f) (first-fault g) = elim (decLt m n) [ yes l ↦ absurd (g .before m l (f .fault)) | no h ↦ least h ]
   where
     least : (m < n → ⊥) → m ≡ n
     least h = elim (decLt n m) [ yes l ↦ absurd (f .before n l (g .fault)) | no k ↦ omega arith ]

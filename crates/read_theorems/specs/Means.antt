@@ -6,10 +6,11 @@ use Prim.Native.Nat.{ℕ}
 use borrow.Author.Tests.{ltb-true, lt-ltb, leb-true, le-leb, eqb-true, eq-eqb}
 use lib.Dec.{eqb}
 use Rattle.kinds.specs.Admission.{maximum}
+use Rattle.kinds.specs.Sides.{goodSide}
 use Rattle.text.specs.TextMeaning.{text-means, means-text}
 use Rattle.layout.specs.Kind.{Kind}
-use Rattle.layout.specs.Kind.Kind.{number, time, shares, price4, price8, text, side, printable, code, alpha, reserved}
-use Rattle.wellformed.specs.WellFormed.{good, goodTime, goodShares, goodPrice, goodSide, goodPrintable}
+use Rattle.layout.specs.Kind.Kind.{number, time, shares, price4, price8, texts, side, printable, code, alpha, reserved}
+use Rattle.wellformed.specs.WellFormed.{good, goodTime, goodShares, goodPrice, goodPrintable}
 use Rattle.read_theorems.specs.Statements.{Means}
 
 -- one of two letters
@@ -38,7 +39,7 @@ good-means time w v = (ltb-true v 86400000000000, lt-ltb v 86400000000000)
 good-means shares w v = (leb-true 1 v, le-leb 1 v)
 good-means price4 w v = (leb-true v 2000000000, le-leb v 2000000000)
 good-means price8 w v = any
-good-means text w v = (text-means w v, λ r. means-text w v (r .0) (r .1))
+good-means texts w v = (text-means w v, λ r. means-text w v (r .0) (r .1))
 good-means side w v = either v 66 83
 good-means printable w v = either v 89 78
 good-means code w v = any

@@ -8,7 +8,7 @@ use Prim.Native.Nat.{ℕ, _≤_, _<_}
 use lib.ListN.{length, replicate}
 use Rattle.text.specs.TextMeaning.{LettersThenSpaces}
 use Rattle.layout.specs.Kind.{Kind, Cell}
-use Rattle.layout.specs.Kind.Kind.{number, time, shares, price4, price8, text, side, printable, code, alpha, reserved}
+use Rattle.layout.specs.Kind.Kind.{number, time, shares, price4, price8, texts, side, printable, code, alpha, reserved}
 use Rattle.layout.specs.Layout.{cellsOf, lengthOf}
 use Rattle.layout.specs.Chained.{Printed, printed}
 use Rattle.messages.specs.declared.Answer.{Answer}
@@ -17,7 +17,7 @@ use Rattle.messages.specs.Numbers.{numbers}
 use Rattle.messages.specs.Typed.{message}
 use Rattle.wellformed.specs.WellFormed.{good, earns, valueAt, values}
 use Rattle.reader.specs.Read.{typeOf, answer}
-use Rattle.numbers.specs.Shown.{padded, number as numberOf, row}
+use Rattle.numbers.specs.Shown.{padded, answerNumber as numberOf, answerRow}
 
 -- t is one of the 23 letters that 01 prints; Types.antt proves that it is one exactly where it has a length
 pub record IsPrinted (t : ℕ) : Type 0 where
@@ -30,7 +30,7 @@ abbrev pub Known : List ℕ → Type 0
 Known s = lengthOf (typeOf s) ≡ 0 → ⊥
 
 -- the first byte is one of the 23 types, and the length is that type's
-pub record Sized (s : List ℕ) : Type 0 where
+pub record RightLength (s : List ℕ) : Type 0 where
   pub known : Known s
   pub sized : length s ≡ lengthOf (typeOf s)
 
@@ -50,7 +50,7 @@ Means time w v = v < 86400000000000
 Means shares w v = 1 ≤ v
 Means price4 w v = v ≤ 2000000000
 Means price8 w v = Unit {0}
-Means text w v = (k : ℕ) × LettersThenSpaces w v k
+Means texts w v = (k : ℕ) × LettersThenSpaces w v k
 Means side w v = (v ≡ 66) ⊎ (v ≡ 83)
 Means printable w v = (v ≡ 89) ⊎ (v ≡ 78)
 Means code w v = Unit {0}
@@ -65,7 +65,7 @@ pub record AtFault (s : List ℕ) (cs : List Cell) (n : ℕ) : Type 0 where
   pub bad : good (cell .kind) (cell .width) (valueAt s cell) ≡ false
 
 -- n is the first refusal that a field earns, in the order of the checks, which is that of their numbers (no field earns one below 3)
-pub record First (s : List ℕ) (cs : List Cell) (n : ℕ) : Type 0 where
+pub record FirstFault (s : List ℕ) (cs : List Cell) (n : ℕ) : Type 0 where
   pub fault : AtFault s cs n
   pub before : (m : ℕ) → m < n → AtFault s cs m → ⊥
 
@@ -75,14 +75,14 @@ AllGood s cs = (c : Cell) → Among c cs → good (c .kind) (c .width) (valueAt 
 
 -- 3 to 6, TIME, FIELD, PRICE, SHARES: of the type's length, and n is the first refusal that a field of the type earns
 abbrev pub Earns : ℕ → List ℕ → Type 0
-Earns n s = Sized s × First s (cellsOf (typeOf s)) n
+Earns n s = RightLength s × FirstFault s (cellsOf (typeOf s)) n
 
 -- 0, accepted: of the type's length, and every field of the type is well formed
 abbrev pub Accepted : List ℕ → Type 0
-Accepted s = Sized s × AllGood s (cellsOf (typeOf s))
+Accepted s = RightLength s × AllGood s (cellsOf (typeOf s))
 
 -- each number is given exactly when 01 says so, and no other number is
-pub record Exactly (s : List ℕ) : Type 0 where
+pub record ReadExactly (s : List ℕ) : Type 0 where
   pub done : numberOf (answer s) ≡ 0 ↔ Accepted s
   pub wrong-length : numberOf (answer s) ≡ 1 ↔ WrongLength s
   pub wrong-type : numberOf (answer s) ≡ 2 ↔ WrongType s
@@ -96,9 +96,9 @@ pub record Exactly (s : List ℕ) : Type 0 where
 pub record Fields (s : List ℕ) : Type 0 where
   pub typed : answer s ≡ Good (message (typeOf s) (values s (cellsOf (typeOf s))))
   pub listed : numbers (answer s) ≡ 0 ∷ typeOf s ∷ values s (cellsOf (typeOf s))
-  pub in-a-row : row (answer s) ≡ padded 18 (typeOf s ∷ values s (cellsOf (typeOf s)))
+  pub in-a-row : answerRow (answer s) ≡ padded 18 (typeOf s ∷ values s (cellsOf (typeOf s)))
 
 -- 'A refusal returns its number with all other numbers 0'
 pub record Alone (a : Answer) : Type 0 where
   pub listed : numbers a ≡ numberOf a ∷ []
-  pub in-a-row : row a ≡ replicate 18 0
+  pub in-a-row : answerRow a ≡ replicate 18 0

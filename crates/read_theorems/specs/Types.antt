@@ -60,16 +60,16 @@ no-type t = (
 
 -- P holds at the letter of every entry
 pub data Each (P : ℕ → Type 0) : List Printed → Type 0 where
-  end : Each P []
-  one : {p : Printed} {ps : List Printed} → P (p .letter) → Each P ps → Each P (p ∷ ps)
+  table-end : Each P []
+  one-type : {p : Printed} {ps : List Printed} → P (p .letter) → Each P ps → Each P (p ∷ ps)
 
 infixr 5 _▹_
 pub _▹_ : {P : ℕ → Type 0} {p : Printed} {ps : List Printed} → P (p .letter) → Each P ps → Each P (p ∷ ps)
-x ▹ r = one x r
+x ▹ r = one-type x r
 
 at-letter : {P : ℕ → Type 0} {ps : List Printed} → Each P ps → (p : Printed) → Among p ps → P (p .letter)
-at-letter {P} end p m = absurd (List·Memᴰ·not-nil m)
-at-letter {P} (one x r) p m = elim (List·Memᴰ·cases-cons m) [ inl e ↦ rw e x | inr n ↦ at-letter r p n ]
+at-letter {P} table-end p m = absurd (List·Memᴰ·not-nil m)
+at-letter {P} (one-type x r) p m = elim (List·Memᴰ·cases-cons m) [ inl e ↦ rw e x | inr n ↦ at-letter r p n ]
 
 -- what holds at each of the 23 letters holds at every type
 pub at-type : (P : ℕ → Type 0) → Each P printed → (t : ℕ) → (lengthOf t ≡ 0 → ⊥) → P t

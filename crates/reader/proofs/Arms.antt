@@ -10,7 +10,7 @@ use Rattle.laws.specs.Bools.{and-left, and-right}
 use Rattle.layout.specs.Layout.{Row, rows, cellsIn, lengthOf}
 use Rattle.messages.specs.declared.Answer.{Answer}
 use Rattle.parsed.specs.declared.Parsed.{Parsed}
-use Rattle.parsed.specs.Parsed.{judged, IsParsed}
+use Rattle.parsed.specs.Parsed.{answerOf, IsParsed}
 use Rattle.reader.specs.Read.{judgedAs}
 use Rattle.reader.proofs.Whole.{whole}
 
@@ -23,7 +23,7 @@ pub long : {t k n m : ℕ} → lengthOf k ≡ n → t ≡ k → m ≡ lengthOf t
 long l e h = h ∙ ap lengthOf e ∙ l
 
 -- what was read as the type and judged is the answer
-pub right : {t k : ℕ} {s : List ℕ} {p : Parsed} {r : Answer} → t ≡ k → IsParsed k s p → r ≡ judged p → r ≡ judgedAs t s
+pub right : {t k : ℕ} {s : List ℕ} {p : Parsed} {r : Answer} → t ≡ k → IsParsed k s p → r ≡ answerOf p → r ≡ judgedAs t s
 right {s = s} e h j = j ∙ whole h ∙ ap (λ (x : ℕ). judgedAs x s) (sym e)
 
 -- the arms' letters, the last arm first

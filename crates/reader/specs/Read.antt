@@ -3,25 +3,19 @@
 -- message that passes gives every field of document 000, each the big-endian number that stands at its place in the table.
 -- Assumes nothing.
 use Prim.Native.Nat.{ℕ}
-use mathlib.Core.Bool.{Bool, cond}
+use mathlib.Core.Bool.{cond}
 use mathlib.Core.List.{List}
 use lib.Dec.{eqb}
 use lib.ListN.{length, getD}
+use Rattle.refusals.specs.Refusals.{LENGTH, TYPE, refusalOf}
 use Rattle.layout.specs.Layout.{cellsOf, lengthOf}
 use Rattle.messages.specs.declared.Answer.{Answer}
 use Rattle.messages.specs.declared.Answer.the-variants.{Good, Refused}
 use Rattle.messages.specs.Typed.{message}
 use Rattle.wellformed.specs.WellFormed.{refusal, values}
 
--- the refusals of bytes that are no message
-abbrev pub LENGTH : ℕ
-LENGTH = 1
-
-abbrev pub TYPE : ℕ
-TYPE = 2
-
-abbrev pub refused : ℕ → Answer
-refused n = Refused (record { number = n })
+abbrev pub noMessage : ℕ → Answer
+noMessage n = Refused (refusalOf n)
 
 -- the type byte
 abbrev pub typeOf : List ℕ → ℕ
@@ -29,11 +23,11 @@ typeOf s = getD s 0 0
 
 -- the answer to bytes of the type t and of its length
 unfoldable pub judgedAs : ℕ → List ℕ → Answer
-judgedAs t s = cond (eqb (refusal s (cellsOf t)) 0) (Good (message t (values s (cellsOf t)))) (refused (refusal s (cellsOf t)))
+judgedAs t s = cond (eqb (refusal s (cellsOf t)) 0) (Good (message t (values s (cellsOf t)))) (noMessage (refusal s (cellsOf t)))
 
 -- the answer to any bytes (a byte that is no type has the length 0)
 unfoldable pub answer : List ℕ → Answer
 answer s =
-    cond (eqb (length s) 0) (refused LENGTH)
-    (cond (eqb (lengthOf (typeOf s)) 0) (refused TYPE)
-    (cond (eqb (length s) (lengthOf (typeOf s))) (judgedAs (typeOf s) s) (refused LENGTH)))
+    cond (eqb (length s) 0) (noMessage LENGTH)
+    (cond (eqb (lengthOf (typeOf s)) 0) (noMessage TYPE)
+    (cond (eqb (length s) (lengthOf (typeOf s))) (judgedAs (typeOf s) s) (noMessage LENGTH)))

@@ -3,15 +3,17 @@ ghost use mathlib.Core.Path.{_≡_};
 ghost use Prim.Native.Nat.{_<_};
 ghost use lib.ListN.{length};
 ghost use Rattle.layout.specs.Layout.{lengthOf};
-ghost use Rattle.reader.specs.Read.{answer, judgedAs, refused};
+ghost use Rattle.reader.specs.Read.{answer, judgedAs, noMessage};
 use messages::Answer;
-use messages::Refusal;
 use parsed::judge;
+use refusals::LENGTH;
+use refusals::Refusal;
+use refusals::TYPE;
 
 fn refuse(n: u8) -> Answer
-    ensures { λ r. ⌜ r ≡ refused n ⌝ }
+    ensures { λ r. ⌜ r ≡ noMessage n ⌝ }
 {
-    Answer::Refused(Refusal { number: n })
+    Answer::Refused(Refusal::of(n))
 }
 
 // How many bytes the messages of a type have; 0 for a byte that is no type.
@@ -75,7 +77,7 @@ fn judged(s: &[u8], t: u8) -> Answer
         b'I' => judge(read_auctions::net_order_imbalance(s)),
         b'N' => judge(read_auctions::retail_interest(s)),
         b'O' => judge(read_auctions::direct_listing(s)),
-        _ => refuse(2),
+        _ => refuse(TYPE),
     }
 }
 
@@ -84,15 +86,15 @@ pub fn read(s: &[u8]) -> Answer
     ensures { λ r. ⌜ r ≡ answer (now (s .entry)) ⌝ }
 {
     if s.len() == 0 {
-        return refuse(1);
+        return refuse(LENGTH);
     }
     let t = s[0];
     let n = length_of(t);
     if n == 0 {
-        return refuse(2);
+        return refuse(TYPE);
     }
     if s.len() != n {
-        return refuse(1);
+        return refuse(LENGTH);
     }
     judged(s, t)
 }

@@ -7,7 +7,7 @@ use borrow.Author.Tests.{le-leb, lt-leb}
 use lib.ListN.{length, take, drop, length-append}
 use Rattle.store.specs.StoreLaws.{length-bigEndian}
 use Rattle.records.specs.Append.{appended, reach}
-use Rattle.records.specs.Records.{refusalRecord, levelRecord, tallyRecord}
+use Rattle.records.specs.Records.{refusalRecord, levelRecord}
 
 pub length-refusalRecord : (message refusal : ℕ) → length (refusalRecord message refusal) ≡ 10
 unfolding refusalRecord
@@ -16,10 +16,6 @@ length-refusalRecord message refusal = simp (length-append, length-bigEndian)
 pub length-levelRecord : (kind locate price total orders : ℕ) → length (levelRecord kind locate price total orders) ≡ 19
 unfolding levelRecord
 length-levelRecord kind locate price total orders = simp (length-append, length-bigEndian)
-
-pub length-tallyRecord : (messages refused : ℕ) → length (tallyRecord messages refused) ≡ 17
-unfolding tallyRecord
-length-tallyRecord messages refused = simp (length-append, length-bigEndian)
 
 -- a record that fits
 module _ (out : List ℕ) (at : ℕ) (row : List ℕ) (fits : at + length row ≤ length out) where

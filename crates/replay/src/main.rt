@@ -4,7 +4,7 @@ use feed::Tally;
 use libc::STDIN_FILENO;
 use libc::STDOUT_FILENO;
 
-// The directory's numbers.
+// How many locates the directory has, 0 among them.
 const LOCATES: u16 = 2048;
 
 // What a read came to.
@@ -20,6 +20,15 @@ enum Turn {
     More(usize, Tally),
     End(usize, Tally),
     Stopped,
+}
+
+// Writes records; false where that fails, which is told.
+fn write(records: &[u8]) -> bool {
+    let is_written = io::write_all(STDOUT_FILENO, records);
+    if !is_written {
+        os::fail(b"standard output");
+    }
+    is_written
 }
 
 // Reads behind the bytes that are held. A call that a signal interrupts is no failure: nothing more is held.
@@ -50,7 +59,7 @@ fn take_turn(
 ) -> Turn {
     let fed = feed::feed(carry::front(input, held), directory, book, tally, output);
     let counts = fed.tally;
-    let is_written = io::write_all(STDOUT_FILENO, carry::front(output, fed.written));
+    let is_written = write(carry::front(output, fed.written));
     if !is_written {
         return Turn::Stopped;
     }
@@ -89,30 +98,30 @@ fn apply_all(input: &mut [u8], directory: &mut [u64], book: &mut [u64], output: 
 // Writes all levels, a buffer at a time; false where that fails.
 fn write_levels(book: &[u64], output: &mut [u8]) -> bool {
     let end = ladders::first_of(LOCATES);
-    let mut place = ladders::first_of(1);
+    let mut rung = ladders::first_of(1);
     let mut is_written = true;
     let mut turns = u64::MAX;
     while turns > 0 {
-        if place >= end {
+        if rung >= end {
             break;
         }
         if !is_written {
             break;
         }
-        let filled = ladders::fill(book, place, LOCATES, output);
-        is_written = io::write_all(STDOUT_FILENO, carry::front(output, filled.written));
-        place = filled.place;
+        let filled = ladders::fill(book, rung, LOCATES, output);
+        is_written = write(carry::front(output, filled.written));
+        rung = filled.rung;
         turns -= 1;
     }
     is_written
 }
 
 fn write_cut(cut: &[u8; 10], n: usize) -> bool {
-    io::write_all(STDOUT_FILENO, carry::front(cut, n))
+    write(carry::front(cut, n))
 }
 
 fn write_tally(last: &[u8; 17]) -> bool {
-    io::write_all(STDOUT_FILENO, last)
+    write(last)
 }
 
 // The end of the input, where so many bytes are left that make no whole block: the last records.

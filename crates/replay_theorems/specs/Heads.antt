@@ -11,7 +11,7 @@ use lib.Seq.{take-append-le, drop-append-le, getD-append-add, getD-take, getD-dr
 use Rattle.laws.specs.Least.{lt-or-le}
 use Rattle.laws.specs.Field.{field}
 use Rattle.moves.specs.Lawful.{Bytes}
-use Rattle.blocks.specs.Blocks.{promised, whole, body, behind}
+use Rattle.blocks.specs.Blocks.{promised, wholeBlock, body, behind}
 use Rattle.blocks.specs.BlockLaws.{is-whole, whole-fits}
 
 -- ---- a whole block with more behind it
@@ -23,11 +23,11 @@ field-append s t at (suc w) l =
     let h : at + w < length s = omega arith in
     rw (field-append s t at w (omega arith), List·getD-append s t 0 (at + w) h)
 
-module _ (s t : List ℕ) (w : whole s ≡ true) where
+module _ (s t : List ℕ) (w : wholeBlock s ≡ true) where
   promised-append : promised (s ++ t) ≡ promised s
   promised-append = field-append s t 0 2 (omega (arith, whole-fits s w))
 
-  pub whole-append : whole (s ++ t) ≡ true
+  pub whole-append : wholeBlock (s ++ t) ≡ true
   whole-append = is-whole (s ++ t) (omega (arith, promised-append, length-append s t, whole-fits s w))
 
   pub body-append : body (s ++ t) ≡ body s

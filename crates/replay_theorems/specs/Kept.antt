@@ -1,25 +1,27 @@
 -- Tables made fresh are healthy, and every message keeps them so (runs, Healthy): through any run over bytes, and so through any day.
 -- Of a healthy book every live slot is sound, so it can be read; and healthy tables give neither 13 nor 14. Assumes nothing.
-use mathlib.Core.Path.{_≡_}
+use mathlib.Core.Path.{_≡_, refl}
 use mathlib.Core.Bool.{true}
 use mathlib.Core.List.{List, []}
 use Prim.Native.Nat.{ℕ}
 use native.Mathlib.Omega.{arith}
 use borrow.Author.Tests.{eq-eqb, ne-eqb}
 use lib.ListN.{length}
+use Rattle.directory.specs.Directory.{mostNumbers}
+use Rattle.book.specs.Book.{mostWords}
+use Rattle.apply.specs.Runs.{Tables}
 use Rattle.levels.specs.Totals.{total}
 use Rattle.levels.specs.Levels.{unsoundness}
 use Rattle.apply_theorems.specs.Means.{shaped-words}
 use Rattle.moves.specs.Lawful.{Bytes}
-use Rattle.runs.specs.Runs.{Tables}
 use Rattle.runs.specs.Statements.{Start, Healthy}
 use Rattle.runs.specs.Healthy.{Fitting, healthy-start, fitting-start, healthy-shaped, healthy-sound, healthy-onward, fitting-onward}
 use Rattle.runs.specs.Damage.{healthy-few}
 use Rattle.blocks.specs.Blocks.{body, behind}
 use Rattle.feed.specs.Feed.{Day, onward, ran}
 use Rattle.ladders.specs.Ladders.{readable}
-use Rattle.replay_theorems.specs.Replay.{locates, bookWords, freshDay}
-use Rattle.replay_theorems.specs.Statements.{Went, begins, reads, feeds, Readable, NoDamage}
+use Rattle.replay_theorems.specs.Replay.{directoryNumbers, bookWords, freshDay}
+use Rattle.replay_theorems.specs.Statements.{Went, begins, reads, feeds, Readable, NeverRefused}
 use Rattle.replay_theorems.specs.Heads.{bytes-none, bytes-both, bytes-first, bytes-last, bytes-body, bytes-behind}
 use Rattle.replay_theorems.specs.RanLaws.{by-block}
 
@@ -54,36 +56,40 @@ module _ (n k : ℕ) (z : Start n k) where
   healthy-readable : (day : Day) → Healthy n k (tablesOf day) → readable (day .book) ≡ true
   unfolding readable
   healthy-readable day h =
-      rw (shaped-words (healthy-shaped z h), ne-eqb k 0 (λ e. omega (arith, z .some)))
+      rw (shaped-words (healthy-shaped z h), ne-eqb k 0 (λ e. omega (arith, z .book .some)))
       (eq-eqb (total unsoundness (day .book) k) 0 (healthy-sound h))
 
 -- ---- through a day
 
-start-good : Start locates bookWords
-start-good = record { least = omega arith; most = omega arith; some = omega arith; few = omega arith }
+start-good : Start directoryNumbers bookWords
+unfolding mostNumbers mostWords
+start-good = record {
+  directory = record { least = omega arith; most = omega arith };
+  book = record { some = omega arith; few = omega arith; size = refl };
+}
 
-fresh-kept : Kept locates bookWords [] freshDay
+fresh-kept : Kept directoryNumbers bookWords [] freshDay
 unfolding freshDay
 fresh-kept =
     record {
       bytes = bytes-none;
-      healthy = healthy-start locates bookWords start-good;
-      fitting = fitting-start locates bookWords start-good;
+      healthy = healthy-start directoryNumbers bookWords start-good;
+      fitting = fitting-start directoryNumbers bookWords start-good;
     }
 
-went-kept : {s held out : List ℕ} {day : Day} → Bytes s → Went s held day out → Kept locates bookWords held day
+went-kept : {s held out : List ℕ} {day : Day} → Bytes s → Went s held day out → Kept directoryNumbers bookWords held day
 went-kept y begins = fresh-kept
 went-kept y (reads s held out t day g) =
     let h = went-kept (bytes-first s t y) g in
     record { bytes = bytes-both held t (h .bytes) (bytes-last s t y); healthy = h .healthy; fitting = h .fitting }
-went-kept y (feeds s held out day room g) = kept-ran locates bookWords start-good (length held) room held day (went-kept y g)
+went-kept y (feeds s held out day room g) = kept-ran directoryNumbers bookWords start-good (length held) room held day (went-kept y g)
 
 -- THEOREM: the book can always be read
 pub readable-always : Readable
-readable-always s held out day y g = healthy-readable locates bookWords start-good day (went-kept y g .healthy)
+readable-always s held out day y g = healthy-readable directoryNumbers bookWords start-good day (went-kept y g .healthy)
 
 -- THEOREM: no message is refused with 13 or 14
-pub no-damage : NoDamage
+pub no-damage : NeverRefused
 no-damage s held out m day y g =
-    let few = healthy-few locates bookWords (tablesOf day) m start-good (went-kept y g .healthy) in
+    let few = healthy-few directoryNumbers bookWords (tablesOf day) m start-good (went-kept y g .healthy) in
     (λ e. omega (arith, few, e), λ e. omega (arith, few, e))

@@ -12,7 +12,7 @@ use borrow.Author.Tests.{le-leb}
 use Rattle.laws.specs.Bools.{cases}
 use Rattle.laws.specs.Least.{lt-or-le}
 use Rattle.laws.specs.FieldLaws.{field-lt}
-use Rattle.blocks.specs.Blocks.{promised, whole, body, behind}
+use Rattle.blocks.specs.Blocks.{promised, wholeBlock, body, behind}
 use Rattle.blocks.specs.BlockLaws.{is-whole, not-whole, length-behind}
 use Rattle.records.specs.Records.{refusalSize}
 use Rattle.feed.specs.Feed.{Day, onward, recordOf, ran, ranThrough}
@@ -28,7 +28,7 @@ record Rest (s left : List ℕ) : Type 0 where
   inside : at ≤ length s
   is : left ≡ drop at s
 
-rest-behind : (s left : List ℕ) → whole s ≡ true → Rest (behind s) left → Rest s left
+rest-behind : (s left : List ℕ) → wholeBlock s ≡ true → Rest (behind s) left → Rest s left
 unfolding behind
 rest-behind s left w r =
     let b = length-behind s w in
@@ -77,12 +77,12 @@ has-room s b w =
 
 -- ---- no whole block
 
-ends : (n : ℕ) (s : List ℕ) (day : Day) → length s ≤ n → whole (throughout s day .left) ≡ false
+ends : (n : ℕ) (s : List ℕ) (day : Day) → length s ≤ n → wholeBlock (throughout s day .left) ≡ false
 ends zero s day l = let e = not-whole s (omega arith) in rw (throughout-stops s day e) e
 ends (suc n) s day l =
     ⊎-elim
-    (λ (w : whole s ≡ true). rw (throughout-goes s day w) (ends n (behind s) (onward day (body s)) (omega (arith, length-behind s w))))
-    (λ (w : whole s ≡ false). rw (throughout-stops s day w) w) (cases (whole s))
+    (λ (w : wholeBlock s ≡ true). rw (throughout-goes s day w) (ends n (behind s) (onward day (body s)) (omega (arith, length-behind s w))))
+    (λ (w : wholeBlock s ≡ false). rw (throughout-stops s day w) w) (cases (wholeBlock s))
 
 -- THEOREM: what is left in the end is no whole block
 pub part-left : PartLeft

@@ -9,7 +9,10 @@ use Rattle.records.specs.Records.{tallyRecord, refusalSize}
 use Rattle.feed.specs.Feed.{Day, Ran, ranThrough, closedTally, closedRecord}
 use Rattle.ladders.specs.Ladders.{firstOf, levelsFrom}
 
--- a directory of 2,048 numbers, and a book of 1,024 slots
+-- a directory of 2,048 numbers, one for each of as many locates, and a book of 1,024 slots
+abbrev pub directoryNumbers : ℕ
+directoryNumbers = 2048
+
 abbrev pub locates : ℕ
 locates = 2048
 
@@ -18,7 +21,7 @@ bookWords = 16
 
 unfoldable pub freshDay : Day
 freshDay = record {
-  directory = replicate locates 0;
+  directory = replicate directoryNumbers 0;
   book = replicate (257 * bookWords) 0;
   tally = record { messages = 0; refused = 0 };
 }

@@ -5,8 +5,8 @@ use mathlib.Core.Bool.{false}
 use mathlib.Core.List.{List, [], _++_, append-nil, append-assoc}
 use Prim.Native.Nat.{ℕ}
 use lib.ListN.{length}
-use Rattle.blocks.specs.Blocks.{whole}
-use Rattle.feed.specs.Feed.{Day, behindOf, ranThrough}
+use Rattle.blocks.specs.Blocks.{wholeBlock}
+use Rattle.feed.specs.Feed.{Day, recordBehind, ranThrough}
 use Rattle.replay_theorems.specs.Replay.{freshDay, ended, throughout, replayed}
 use Rattle.replay_theorems.specs.Statements.{Went, begins, reads, feeds, Replays}
 use Rattle.replay_theorems.specs.RanLaws.{throughout-stops, behind-twice, cut}
@@ -14,20 +14,20 @@ use Rattle.replay_theorems.specs.Kept.{readable-always}
 use Rattle.replay_theorems.specs.Listing.{all-listed}
 
 went-all : {s held out : List ℕ} {day : Day} → Went s held day out → (t : List ℕ)
-    → throughout (s ++ t) freshDay ≡ behindOf out (throughout (held ++ t) day)
+    → throughout (s ++ t) freshDay ≡ recordBehind out (throughout (held ++ t) day)
 went-all begins t = refl
 went-all (reads s held out more day g) t = rw (append-assoc s more t, append-assoc held more t) (went-all g (more ++ t))
 went-all (feeds s held out day room g) t =
     let x = ranThrough room held day in
-    went-all g t ∙ ap (behindOf out) (cut (length held) room held t day)
+    went-all g t ∙ ap (recordBehind out) (cut (length held) room held t day)
     ∙ behind-twice out (x .records) (throughout (x .left ++ t) (x .day))
 
 -- no whole block is held: that is all
-went-done : {s held out : List ℕ} {day : Day} → Went s held day out → whole held ≡ false
+went-done : {s held out : List ℕ} {day : Day} → Went s held day out → wholeBlock held ≡ false
     → throughout s freshDay ≡ record { records = out; left = held; day = day }
 went-done {s} {held} {out} {day} g e =
     ap (λ (l : List ℕ). throughout l freshDay) (sym (append-nil s)) ∙ went-all g []
-    ∙ ap (λ (l : List ℕ). behindOf out (throughout l day)) (append-nil held) ∙ ap (behindOf out) (throughout-stops held day e)
+    ∙ ap (λ (l : List ℕ). recordBehind out (throughout l day)) (append-nil held) ∙ ap (recordBehind out) (throughout-stops held day e)
     ∙ ap (λ (l : List ℕ). record { records = l; left = held; day = day }) (append-nil out)
 
 -- THEOREM: what is written is what the input fixes

@@ -7,7 +7,7 @@ use mathlib.Core.Bool.{true, false}
 use mathlib.Core.List.{List, [], _++_}
 use lib.ListN.{length, drop}
 use Rattle.moves.specs.Lawful.{Bytes}
-use Rattle.blocks.specs.Blocks.{whole}
+use Rattle.blocks.specs.Blocks.{wholeBlock}
 use Rattle.records.specs.Records.{tallyRecord, refusalSize}
 use Rattle.feed.specs.Feed.{Day, numbered, ranThrough, closedTally, closedRecord}
 use Rattle.ladders.specs.Ladders.{firstOf, readable, shown}
@@ -20,15 +20,15 @@ pub data Went : List ℕ → List ℕ → Day → List ℕ → Type 0 where
   feeds : (s held out : List ℕ) (day : Day) (room : ℕ) → Went s held day out
       → Went s (ranThrough room held day .left) (ranThrough room held day .day) (out ++ ranThrough room held day .records)
 
--- filling buffers with levels: the place to go on from, and what was written
-pub data Listed (b : List ℕ) : ℕ → List ℕ → Type 0 where
-  begins : Listed b (firstOf 1) []
-  fills : (p n : ℕ) (out : List ℕ) → Listed b p out → Listed b (shown n b p (firstOf locates) .place) (out ++ shown n b p (firstOf locates) .records)
+-- filling buffers with levels: the rung to go on from, and what was written
+pub data LevelsWritten (b : List ℕ) : ℕ → List ℕ → Type 0 where
+  begins : LevelsWritten b (firstOf 1) []
+  fills : (p n : ℕ) (out : List ℕ) → LevelsWritten b p out → LevelsWritten b (shown n b p (firstOf locates) .rung) (out ++ shown n b p (firstOf locates) .records)
 
 -- all that is written once no whole block is held and no level is left
 abbrev pub Replays : Type 0
-Replays = (s held out rows : List ℕ) (day : Day) → Bytes s → Went s held day out → whole held ≡ false
-    → Listed (day .book) (firstOf locates) rows
+Replays = (s held out rows : List ℕ) (day : Day) → Bytes s → Went s held day out → wholeBlock held ≡ false
+    → LevelsWritten (day .book) (firstOf locates) rows
     → let t = closedTally (length held) (day .tally) in
     out ++ (closedRecord (length held) (day .tally) ++ (rows ++ tallyRecord (t .messages) (t .refused))) ≡ replayed s
 
@@ -39,23 +39,23 @@ LeftBehind = (room : ℕ) (s : List ℕ) (day : Day)
 
 -- a call that is lent a whole block, and room for a refusal's record, uses it
 abbrev pub GoesOn : Type 0
-GoesOn = (room : ℕ) (held : List ℕ) (day : Day) → whole held ≡ true → refusalSize ≤ room → length (ranThrough room held day .left) < length held
+GoesOn = (room : ℕ) (held : List ℕ) (day : Day) → wholeBlock held ≡ true → refusalSize ≤ room → length (ranThrough room held day .left) < length held
 
 -- no block is longer than this: a buffer of more bytes has room to read where no whole block is held
 abbrev pub longest : ℕ
 longest = 65537
 
 abbrev pub HasRoom : Type 0
-HasRoom = (held : List ℕ) → Bytes held → whole held ≡ false → length held < longest
+HasRoom = (held : List ℕ) → Bytes held → wholeBlock held ≡ false → length held < longest
 
 -- what is left of any input in the end is no whole block, but a part of one or nothing
 abbrev pub PartLeft : Type 0
-PartLeft = (s : List ℕ) (day : Day) → whole (throughout s day .left) ≡ false
+PartLeft = (s : List ℕ) (day : Day) → wholeBlock (throughout s day .left) ≡ false
 
 -- the book can always be read to the end
 abbrev pub Readable : Type 0
 Readable = (s held out : List ℕ) (day : Day) → Bytes s → Went s held day out → readable (day .book) ≡ true
 
 -- and no message, of whatever bytes, is refused with 13 or 14: our tables are never damaged
-abbrev pub NoDamage : Type 0
-NoDamage = (s held out m : List ℕ) (day : Day) → Bytes s → Went s held day out → (numbered day m ≢ 13) × (numbered day m ≢ 14)
+abbrev pub NeverRefused : Type 0
+NeverRefused = (s held out m : List ℕ) (day : Day) → Bytes s → Went s held day out → (numbered day m ≢ 13) × (numbered day m ≢ 14)

@@ -33,24 +33,24 @@ pub record SameFed (r r′ : Fed) (d d′ b b′ o o′ : List ℕ) : Type 0 whe
   pub out : o ≡ o′
 
 pub feed-unique : (s out : List ℕ) (day : Day) (r r′ : Fed) (d d′ b b′ o o′ : List ℕ)
-    → record { fed = r; directory = d; book = b; out = o } ≡ feed.leaves s out (ranThrough (length out) s day)
-    → record { fed = r′; directory = d′; book = b′; out = o′ } ≡ feed.leaves s out (ranThrough (length out) s day)
+    → record { fed = r; directory = d; book = b; out = o } ≡ feed.feedLeaves s out (ranThrough (length out) s day)
+    → record { fed = r′; directory = d′; book = b′; out = o′ } ≡ feed.feedLeaves s out (ranThrough (length out) s day)
     → SameFed r r′ d d′ b b′ o o′
 feed-unique s out day r r′ d d′ b b′ o o′ p q =
     let e = unique p q in
     record {
-      fed = ap (λ (x : feed.Leaves). x .fed) e;
-      directory = ap (λ (x : feed.Leaves). x .directory) e;
-      book = ap (λ (x : feed.Leaves). x .book) e;
-      out = ap (λ (x : feed.Leaves). x .out) e;
+      fed = ap (λ (x : feed.FeedLeaves). x .fed) e;
+      directory = ap (λ (x : feed.FeedLeaves). x .directory) e;
+      book = ap (λ (x : feed.FeedLeaves). x .book) e;
+      out = ap (λ (x : feed.FeedLeaves). x .out) e;
     }
 
-pub record SameEnd (r r′ : Fed) (o o′ : List ℕ) : Type 0 where
+pub record SameClose (r r′ : Fed) (o o′ : List ℕ) : Type 0 where
   pub fed : r ≡ r′
   pub out : o ≡ o′
 
 pub close-unique : (left : ℕ) (t : Tally) (out : List ℕ) (r r′ : Fed) (o o′ : List ℕ)
-    → record { fed = r; out = o } ≡ feed.closes left t out → record { fed = r′; out = o′ } ≡ feed.closes left t out → SameEnd r r′ o o′
+    → record { fed = r; out = o } ≡ feed.closes left t out → record { fed = r′; out = o′ } ≡ feed.closes left t out → SameClose r r′ o o′
 close-unique left t out r r′ o o′ p q =
     let e = unique p q in
     record { fed = ap (λ (x : feed.Closes). x .fed) e; out = ap (λ (x : feed.Closes). x .out) e }
@@ -62,9 +62,9 @@ pub record SameFilled (r r′ : Filled) (o o′ : List ℕ) : Type 0 where
   pub out : o ≡ o′
 
 pub fill-unique : (b out : List ℕ) (from locates : ℕ) (r r′ : Filled) (o o′ : List ℕ)
-    → record { filled = r; out = o } ≡ ladders.leaves out (shown (length out / levelSize) b from (firstOf locates))
-    → record { filled = r′; out = o′ } ≡ ladders.leaves out (shown (length out / levelSize) b from (firstOf locates))
+    → record { filled = r; out = o } ≡ ladders.fillLeaves out (shown (length out / levelSize) b from (firstOf locates))
+    → record { filled = r′; out = o′ } ≡ ladders.fillLeaves out (shown (length out / levelSize) b from (firstOf locates))
     → SameFilled r r′ o o′
 fill-unique b out from locates r r′ o o′ p q =
     let e = unique p q in
-    record { filled = ap (λ (x : ladders.Leaves). x .filled) e; out = ap (λ (x : ladders.Leaves). x .out) e }
+    record { filled = ap (λ (x : ladders.FillLeaves). x .filled) e; out = ap (λ (x : ladders.FillLeaves). x .out) e }

@@ -2,7 +2,7 @@
 -- them for every case. Assumes nothing.
 use Prim.Native.Nat.{ℕ}
 use mathlib.Core.List.{List, [], _∷_}
-use Rattle.messages.specs.Numbers.{sideByte}
+use Rattle.kinds.specs.Sides.{sideByte}
 use Rattle.numbers.specs.Shown.{padded}
 use Rattle.accounts.specs.declared.Accounted.{Accounted}
 use Rattle.accounts.specs.declared.Accounted.the-variants as account

@@ -21,7 +21,7 @@ fn write_account(a: Account, out: &mut [u64; 8])
         a.cancelled as u64,
         a.remaining as u64,
         locate.0 as u64,
-        numbers::side_byte(side),
+        side.byte(),
         price.0 as u64,
         a.attribution as u64,
     ];

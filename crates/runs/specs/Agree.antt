@@ -1,5 +1,5 @@
 -- BOOKS AGREE (`agree`): from tables made fresh, alike for they are empty, no message tells apart two books that are never full,
--- whatever their sizes. Tables of good shapes are made fresh to `start` (`made-start`), so two tasks whose tables have the same lengths
+-- whatever their sizes. Tables of good shapes are made fresh to `startOf` (`made-start`), so two tasks whose tables have the same lengths
 -- start, and stay, equal (`tasks-agree`). Assumes nothing.
 use mathlib.Core.Path.{_≡_, refl, sym, ap, _∙_}
 use mathlib.Core.Bool.{Bool, true, false, cond}
@@ -7,12 +7,13 @@ use mathlib.Core.List.{List, [], _∷_, List·Memᴰ·head as here, List·Memᴰ
 use Prim.Native.Nat.{ℕ, _*_}
 use native.Mathlib.Omega.{arith}
 use lib.ListN.{length, replicate}
+use Rattle.refusals.specs.Refusals.{SHAPE, refusalOf}
 use Rattle.book.specs.Book.{wordsOf}
 use Rattle.fresh.specs.declared.Made.the-variants.{Fresh, Refused}
 use Rattle.fresh.specs.Fresh.{goodShapes, madeNumber, madeOf, freshOf}
+use Rattle.apply.specs.Runs.{Tables, made, tablesAfter, answerTo, reached, said}
 use Rattle.apply_theorems.specs.Means.{shaped-good, good-shaped}
-use Rattle.runs.specs.Runs.{Tables, made, onward, answered, reached, said}
-use Rattle.runs.specs.Statements.{Run, Start, start, MadeStart, Alike, BothRoom, NeverFull, TasksAgree, Agree}
+use Rattle.runs.specs.Statements.{Run, Start, startOf, MadeStart, Alike, BothRoom, NeverFull, TasksAgree, Agree}
 use Rattle.runs.specs.Healthy.{Fitting, healthy-start, fitting-start, fitting-onward}
 use Rattle.runs.specs.RunLaws.{fresh-total}
 use Rattle.runs.specs.AlikeAsks.{asks-alike}
@@ -20,7 +21,7 @@ use Rattle.runs.specs.Alike.{alike-step}
 
 -- ---- the start
 
-pub start-alike : (n k m : ℕ) → Start n k → Start n m → Alike n k m (start n k) (start n m)
+pub start-alike : (n k m : ℕ) → Start n k → Start n m → Alike n k m (startOf n k) (startOf n m)
 start-alike n k m z y = record {
   directory = refl;
   first = healthy-start n k z;
@@ -41,21 +42,21 @@ together n k m [] t u z y a f g run p q = record { answers = refl; tables = a }
 together n k m (s ∷ ss) t u z y a f g run p q =
     let bytes = run s (here refl) in
     let room : BothRoom t u s =
-    (p (record { bytes = s; outcome = answered t s }) (here refl), q (record { bytes = s; outcome = answered u s }) (here refl)) in
+    (p (record { bytes = s; outcome = answerTo t s }) (here refl), q (record { bytes = s; outcome = answerTo u s }) (here refl)) in
     let step = alike-step n k m t u s z y a f g bytes room in
-    let rest = together n k m ss (onward t s) (onward u s) z y (step .tables)
+    let rest = together n k m ss (tablesAfter t s) (tablesAfter u s) z y (step .tables)
     (fitting-onward n k t s z (a .first) f bytes) (fitting-onward n m u s y (a .second) g bytes)
     (λ x h. run x (there h)) (λ x h. p x (there h)) (λ x h. q x (there h)) in
     record { answers = λ i. record { bytes = s; outcome = step .answer i } ∷ rest .answers i; tables = rest .tables }
 
-pub agree : (n k m : ℕ) (ss : List (List ℕ)) → Start n k → Start n m → Run ss → NeverFull (said (start n k) ss)
-    → NeverFull (said (start n m) ss) → Agree n k m ss
+pub agree : (n k m : ℕ) (ss : List (List ℕ)) → Start n k → Start n m → Run ss → NeverFull (said (startOf n k) ss)
+    → NeverFull (said (startOf n m) ss) → Agree n k m ss
 agree n k m ss z y run p q =
-    let h = together n k m ss (start n k) (start n m) z y (start-alike n k m z y) (fitting-start n k z) (fitting-start n m y) run p q in
+    let h = together n k m ss (startOf n k) (startOf n m) z y (start-alike n k m z y) (fitting-start n k z) (fitting-start n m y) run p q in
     record {
       answers = h .answers;
       tables = h .tables;
-      questions = asks-alike n k m (reached (start n k) ss) (reached (start n m) ss) z y (h .tables);
+      questions = asks-alike n k m (reached (startOf n k) ss) (reached (startOf n m) ss) z y (h .tables);
     }
 
 -- ---- tables made fresh
@@ -68,9 +69,9 @@ pub made-start : (n k : ℕ) (d b : List ℕ) → Start n k → length d ≡ n �
 unfolding madeOf
 made-start n k d b z e f =
     let good : goodShapes d b ≡ true =
-    shaped-good (record { least = omega (arith, z .least); most = omega (arith, z .most); some = z .some; few = z .few; size = f }) in
+    shaped-good (record { directory = rw e (z .directory); book = record { some = z .book .some; few = z .book .few; size = f } }) in
     record {
-      number = ap (λ x. madeNumber (cond x Fresh (Refused (record { number = 14 })))) good;
+      number = ap (λ x. madeNumber (cond x Fresh (Refused (refusalOf SHAPE)))) good;
       tables = λ i. record {
         directory = (made-fresh d b d good ∙ ap (λ (m : ℕ). replicate m 0) e) i;
         book = (made-fresh d b b good ∙ ap (λ (m : ℕ). replicate m 0) f) i;
@@ -84,7 +85,7 @@ were-good : (d b : List ℕ) → madeNumber (madeOf d b) ≡ 0 → goodShapes d 
 unfolding madeOf
 were-good d b e = go (goodShapes d b) e
   where
-    go : (x : Bool) → madeNumber (cond x Fresh (Refused (record { number = 14 }))) ≡ 0 → x ≡ true
+    go : (x : Bool) → madeNumber (cond x Fresh (Refused (refusalOf SHAPE))) ≡ 0 → x ≡ true
     go true e = refl
     go false e = absurd (omega arith)
 
@@ -92,9 +93,9 @@ pub tasks-agree : (d b d′ b′ : List ℕ) (ss : List (List ℕ)) → length d
     → TasksAgree d b d′ b′ ss
 tasks-agree d b d′ b′ ss e f made-one =
     let s = good-shaped d b (were-good d b made-one) in
-    let z : Start (length d) (wordsOf (length b)) = record { least = s .least; most = s .most; some = s .some; few = s .few } in
-    let one = made-start (length d) (wordsOf (length b)) d b z refl (s .size) in
-    let other = made-start (length d) (wordsOf (length b)) d′ b′ z e (f ∙ s .size) in
+    let z : Start (length d) (wordsOf (length b)) = record { directory = s .directory; book = record { some = s .book .some; few = s .book .few; size = refl } } in
+    let one = made-start (length d) (wordsOf (length b)) d b z refl (s .book .size) in
+    let other = made-start (length d) (wordsOf (length b)) d′ b′ z e (f ∙ s .book .size) in
     let same : made d b ≡ made d′ b′ = one .tables ∙ sym (other .tables) in
     record {
       number = other .number;

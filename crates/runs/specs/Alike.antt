@@ -14,17 +14,17 @@ use Rattle.book.specs.Book.{find, lowestFree}
 use Rattle.directory.specs.Directory.{entryAt, isSymbol}
 use Rattle.orders.specs.declared.Order.{Order}
 use Rattle.decide.specs.Decide.{Verdict, enter, gate, stepOf, isRegistered, placing, taking, closing, replacing}
-use Rattle.decide.specs.Stored.{seenIn, isAt, enrolled}
+use Rattle.slots.specs.Stored.{isAt, seenIn}
+use Rattle.enroll.specs.Enrolled.{enrolled}
 use Rattle.take.specs.Taken.{takenBy}
 use Rattle.reader.specs.Read.{answer}
 use Rattle.steps.specs.Asked.{Asked, register, start, take, close, replace, nothing, asked}
-use Rattle.steps.specs.Steps.{judged}
-use Rattle.apply.specs.Apply.{After, concluded}
+use Rattle.steps.specs.Steps.{verdictOn}
+use Rattle.apply.specs.Apply.{After, concluded, numberOf}
+use Rattle.apply.specs.Runs.{Tables, tablesAfter, answerTo}
 use Rattle.levels.specs.Totals.{total}
-use Rattle.outcomes.specs.Outcomes.{numberOf}
 use Rattle.moves.specs.Lawful.{Bytes}
 use Rattle.moves.specs.Moves.{takenOut, putIn}
-use Rattle.runs.specs.Runs.{Tables, onward, answered}
 use Rattle.runs.specs.Statements.{Start, SameOrders, Alike, StepsAlike, BothRoom}
 use Rattle.runs.specs.Healthy.{Fitting, healthy-onward}
 use Rattle.runs.specs.Onward.{step-unread, step-read, step-moved}
@@ -54,8 +54,8 @@ roomy m true true true true true o e f = refl
 
 -- what starts an order aside, room does not matter
 judged-same : (d b : List ℕ) (k : ℕ) (c : List ℕ) (m : ℕ) → ((r : ℕ) → seenIn b k (find b k r) ≡ seenIn c m (find c m r)) → (a : Asked)
-    → ((o : Order) (symbol : ℕ) → a ≡ start o symbol → judged d b k (start o symbol) ≡ judged d c m (start o symbol))
-    → judged d b k a ≡ judged d c m a
+    → ((o : Order) (symbol : ℕ) → a ≡ start o symbol → verdictOn d b k (start o symbol) ≡ verdictOn d c m (start o symbol))
+    → verdictOn d b k a ≡ verdictOn d c m a
 judged-same d b k c m seen (register l symbol) starts = refl
 judged-same d b k c m seen (start o symbol) starts = starts o symbol refl
 judged-same d b k c m seen (take how r l n) starts = ap (taking (takenBy how) l n) (seen r)
@@ -70,13 +70,13 @@ judged-same d b k c m seen nothing starts = refl
 module _ (n k m : ℕ) (t u : Tables) (s : List ℕ) (z : Start n k) (y : Start n m) (a : Alike n k m t u)
     (f : Fitting t) (g : Fitting u) (bytes : Bytes s) where
   abbrev SameVerdict : Message → Type 0
-  SameVerdict x = judged (t .directory) (t .book) k (asked x) ≡ judged (u .directory) (u .book) m (asked x)
+  SameVerdict x = verdictOn (t .directory) (t .book) k (asked x) ≡ verdictOn (u .directory) (u .book) m (asked x)
 
   steps-alike : ((x : Message) → answer s ≡ read.Good x → SameVerdict x) → StepsAlike n k m t u s
   steps-alike same = go (answer s) refl
     where
-      alike : answered t s ≡ answered u s → onward t s .directory ≡ onward u s .directory
-          → SameOrders (onward t s .book) k (onward u s .book) m → StepsAlike n k m t u s
+      alike : answerTo t s ≡ answerTo u s → tablesAfter t s .directory ≡ tablesAfter u s .directory
+          → SameOrders (tablesAfter t s .book) k (tablesAfter u s .book) m → StepsAlike n k m t u s
       alike e d o = record {
         answer = e;
         tables = record {
@@ -108,11 +108,11 @@ module _ (n k m : ℕ) (t u : Tables) (s : List ℕ) (z : Start n k) (y : Start 
   -- the verdict, but for room
   verdict-same : (x : Message)
       → ((o : Order) (symbol : ℕ) → asked x ≡ start o symbol
-      → judged (t .directory) (t .book) k (start o symbol) ≡ judged (t .directory) (u .book) m (start o symbol))
+      → verdictOn (t .directory) (t .book) k (start o symbol) ≡ verdictOn (t .directory) (u .book) m (start o symbol))
       → SameVerdict x
   verdict-same x starts =
       judged-same (t .directory) (t .book) k (u .book) m (alike-seen a) (asked x) starts
-      ∙ ap (λ (d : List ℕ). judged d (u .book) m (asked x)) (a .directory)
+      ∙ ap (λ (d : List ℕ). verdictOn d (u .book) m (asked x)) (a .directory)
 
 -- ---- the two theorems
 
@@ -126,21 +126,21 @@ alike-step n k m t u s z y a f g bytes room =
     d = t .directory
 
     starts : (x : Message) → answer s ≡ read.Good x → (o : Order) (symbol : ℕ) → asked x ≡ start o symbol
-        → judged d (t .book) k (start o symbol) ≡ judged d (u .book) m (start o symbol)
+        → verdictOn d (t .book) k (start o symbol) ≡ verdictOn d (u .book) m (start o symbol)
     starts x e o symbol q =
         let r = o .reference .0 in
         let entry = entryAt d (o .locate .0) in
         let found = found-seen (t .book) k (u .book) m (find (t .book) k r) (find (u .book) m r) (alike-seen a r) in
         let room-of : Bool = isAt (lowestFree (t .book) k) in
-        let first : judged d (t .book) k (start o symbol) ≡ placing entry symbol (isAt (find (u .book) m r)) room-of o =
+        let first : verdictOn d (t .book) k (start o symbol) ≡ placing entry symbol (isAt (find (u .book) m r)) room-of o =
         λ i. placing entry symbol (found i) room-of o in
-        let left : numberOf (answered t s) ≡ answerNumber x (judged d (t .book) k (start o symbol)) =
+        let left : numberOf (answerTo t s) ≡ answerNumber x (verdictOn d (t .book) k (start o symbol)) =
         ap (λ (p : After). numberOf (p .outcome)) (step-read z (a .first) s x e)
-        ∙ ap (λ (c : Asked). answerNumber x (judged d (t .book) k c)) q in
-        let right : numberOf (answered u s) ≡ answerNumber x (judged d (u .book) m (start o symbol)) =
+        ∙ ap (λ (c : Asked). answerNumber x (verdictOn d (t .book) k c)) q in
+        let right : numberOf (answerTo u s) ≡ answerNumber x (verdictOn d (u .book) m (start o symbol)) =
         ap (λ (p : After). numberOf (p .outcome)) (step-read y (a .second) s x e)
-        ∙ ap (λ (c : Asked). answerNumber x (judged (u .directory) (u .book) m c)) q
-        ∙ ap (λ (d : List ℕ). answerNumber x (judged d (u .book) m (start o symbol))) (sym (a .directory)) in
+        ∙ ap (λ (c : Asked). answerNumber x (verdictOn (u .directory) (u .book) m c)) q
+        ∙ ap (λ (d : List ℕ). answerNumber x (verdictOn d (u .book) m (start o symbol))) (sym (a .directory)) in
         first
         ∙ roomy x (isRegistered entry) (isSymbol symbol entry) (not (isAt (find (u .book) m r)))
         room-of (isAt (lowestFree (u .book) m)) o

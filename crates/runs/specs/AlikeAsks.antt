@@ -10,20 +10,20 @@ use lib.Dec.{eqb, leb, ltb}
 use lib.ListN.{length}
 use Rattle.laws.specs.Least.{least-ext}
 use Rattle.laws.specs.Sum.{sum-ext}
+use Rattle.refusals.specs.Refusals.{FIELD}
 use Rattle.kinds.specs.declared.Side.{Side}
-use Rattle.messages.specs.Typed.{sideOf}
-use Rattle.wellformed.specs.WellFormed.{goodSide}
+use Rattle.kinds.specs.Sides.{sideOf, goodSide}
 use Rattle.book.specs.Book.{live, find, wordsOf}
-use Rattle.decide.specs.Stored.{seenIn}
+use Rattle.slots.specs.Stored.{seenIn}
+use Rattle.apply.specs.Runs.{Tables}
 use Rattle.accounts.specs.Accounts.{accounted, orderAsked}
 use Rattle.census.specs.declared.Counted.the-variants.{Live}
 use Rattle.census.specs.Census.{liveCount, countAsked}
 use Rattle.levels.specs.declared.Quote.{Quote}
 use Rattle.levels.specs.declared.Quote.the-variants.{Nothing, Stands}
-use Rattle.levels.specs.Levels.{sharesAt, ordersAt, unsoundness, levelAt, allPrices, priceAt, stepsTo, someAt, firstStep, standing}
-use Rattle.levels.specs.Levels.{refused, checked, levelOf, bestOf, nextOf}
+use Rattle.levels.specs.Levels.{sharesAt, ordersAt, unsoundness, levelAt, allPrices, priceAt, ticksTo, someAt, firstTick, standing}
+use Rattle.levels.specs.Levels.{noQuote, checked, levelOf, bestOf, nextOf}
 use Rattle.levels.specs.Totals.{weighed, total}
-use Rattle.runs.specs.Runs.{Tables}
 use Rattle.runs.specs.Statements.{Start, Healthy, SameOrders, Alike, AskedAlike}
 use Rattle.runs.specs.Healthy.{healthy-sound}
 use Rattle.runs.specs.Onward.{words}
@@ -33,11 +33,11 @@ use Rattle.runs.specs.SameSeen.{seen-same}
 
 module _ {n k : ℕ} {t : Tables} (z : Start n k) (h : Healthy n k t) where
   some-words : eqb k 0 ≡ false
-  some-words = ne-eqb k 0 (λ e. omega (arith, z .some))
+  some-words = ne-eqb k 0 (λ e. omega (arith, z .book .some))
 
   -- a question about levels is refused only for its side
   checked-side : (byte : ℕ) (q : ℕ → Quote)
-      → checked (t .book) byte (q (wordsOf (length (t .book)))) ≡ cond (goodSide byte) (q k) (refused 4)
+      → checked (t .book) byte (q (wordsOf (length (t .book)))) ≡ cond (goodSide byte) (q k) (noQuote FIELD)
   checked-side byte q = rw (words z h, some-words, eq-eqb (total unsoundness (t .book) k) 0 (healthy-sound h))
 
   pub order-seen : (r : ℕ) → orderAsked (t .book) r ≡ accounted (seenIn (t .book) k (find (t .book) k r))
@@ -45,18 +45,18 @@ module _ {n k : ℕ} {t : Tables} (z : Start n k) (h : Healthy n k t) where
   order-seen r = rw (words z h, some-words)
 
   pub level-stands : (l byte p : ℕ)
-      → levelOf (t .book) l byte p ≡ cond (goodSide byte) (Stands (levelAt (t .book) k l (sideOf byte) p)) (refused 4)
+      → levelOf (t .book) l byte p ≡ cond (goodSide byte) (Stands (levelAt (t .book) k l (sideOf byte) p)) (noQuote FIELD)
   unfolding levelOf
   level-stands l byte p = checked-side byte (λ i. Stands (levelAt (t .book) i l (sideOf byte) p))
 
-  best-stands : (l byte : ℕ) → bestOf (t .book) l byte ≡ cond (goodSide byte) (standing (t .book) k l (sideOf byte) 0) (refused 4)
+  best-stands : (l byte : ℕ) → bestOf (t .book) l byte ≡ cond (goodSide byte) (standing (t .book) k l (sideOf byte) 0) (noQuote FIELD)
   unfolding bestOf
   best-stands l byte = checked-side byte (λ i. standing (t .book) i l (sideOf byte) 0)
 
   next-stands : (l byte p : ℕ)
-      → nextOf (t .book) l byte p ≡ cond (goodSide byte) (standing (t .book) k l (sideOf byte) (stepsTo (sideOf byte) p + 1)) (refused 4)
+      → nextOf (t .book) l byte p ≡ cond (goodSide byte) (standing (t .book) k l (sideOf byte) (ticksTo (sideOf byte) p + 1)) (noQuote FIELD)
   unfolding nextOf
-  next-stands l byte p = checked-side byte (λ i. standing (t .book) i l (sideOf byte) (stepsTo (sideOf byte) p + 1))
+  next-stands l byte p = checked-side byte (λ i. standing (t .book) i l (sideOf byte) (ticksTo (sideOf byte) p + 1))
 
   count-live : countAsked (t .book) ≡ Live (liveCount (t .book) k)
   unfolding countAsked
@@ -77,8 +77,8 @@ unfolding levelAt
 level-same b k c m l side p e f = λ i. record { price = p; shares = e i; orders = f i }
 
 module _ (b : List ℕ) (k : ℕ) (c : List ℕ) (m : ℕ) (same : SameOrders b k c m) where
-  first-same : (l : ℕ) (side : Side) (from to : ℕ) → firstStep b k l side from to ≡ firstStep c m l side from to
-  unfolding firstStep someAt
+  first-same : (l : ℕ) (side : Side) (from to : ℕ) → firstTick b k l side from to ≡ firstTick c m l side from to
+  unfolding firstTick someAt
   first-same l side from to =
       least-ext (λ i. leb from i && someAt b k l side i) (λ i. leb from i && someAt c m l side i) to λ i h.
       ap (λ (x : ℕ). leb from i && ltb 0 x) (same (ordersAt l side (priceAt side i)))
@@ -105,16 +105,16 @@ asks-alike n k m t u z y a = record {
   order = λ r. order-seen z (a .first) r ∙ ap accounted (alike-seen a r) ∙ sym (order-seen y (a .second) r);
   level = λ l byte p.
       level-stands z (a .first) l byte p
-      ∙ ap (λ x. cond (goodSide byte) (Stands x) (refused 4))
+      ∙ ap (λ x. cond (goodSide byte) (Stands x) (noQuote FIELD))
       (level-same (t .book) k (u .book) m l (sideOf byte) p (a .orders (sharesAt l (sideOf byte) p)) (a .orders (ordersAt l (sideOf byte) p)))
       ∙ sym (level-stands y (a .second) l byte p);
   best = λ l byte.
       best-stands z (a .first) l byte
-      ∙ ap (λ x. cond (goodSide byte) x (refused 4)) (standing-same (t .book) k (u .book) m (a .orders) l (sideOf byte) 0)
+      ∙ ap (λ x. cond (goodSide byte) x (noQuote FIELD)) (standing-same (t .book) k (u .book) m (a .orders) l (sideOf byte) 0)
       ∙ sym (best-stands y (a .second) l byte);
   next = λ l byte p.
       next-stands z (a .first) l byte p
-      ∙ ap (λ x. cond (goodSide byte) x (refused 4)) (standing-same (t .book) k (u .book) m (a .orders) l (sideOf byte) (stepsTo (sideOf byte) p + 1))
+      ∙ ap (λ x. cond (goodSide byte) x (noQuote FIELD)) (standing-same (t .book) k (u .book) m (a .orders) l (sideOf byte) (ticksTo (sideOf byte) p + 1))
       ∙ sym (next-stands y (a .second) l byte p);
   count = count-live z (a .first) ∙ ap Live (count-same (t .book) k (u .book) m (a .orders)) ∙ sym (count-live y (a .second));
 }

@@ -10,13 +10,15 @@ use Rattle.book.specs.Book.{live}
 use Rattle.orders.specs.declared.Held.{Held}
 use Rattle.orders.specs.declared.Held.the-variants.{Sound, Unsound}
 use Rattle.reader.specs.Read.{answer}
-use Rattle.numbers.specs.Shown.{number}
-use Rattle.read_theorems.specs.Exactly.{exactly as read-exactly}
-use Rattle.decide.specs.Stored.{heldAt}
-use Rattle.steps.specs.Asked.{Asked, register, start as begin, take, close, replace, nothing, asked}
+use Rattle.slots.specs.Stored.{heldAt}
+use Rattle.apply.specs.Apply.{numberOf}
+use Rattle.apply.specs.Runs.{Tables, answerTo, reached}
+use Rattle.numbers.specs.Shown.{answerNumber}
+use Rattle.read_theorems.specs.Exactly.{read-exactly}
+use Rattle.steps.specs.Asked.{Asked, register, start, take, close, replace, nothing, asked}
 use Rattle.apply_theorems.specs.Statements.{IsLive, Broken, first, done, Earned, Judged, Given}
 use Rattle.apply_theorems.specs.Means.{shaped-unique}
-use Rattle.apply_theorems.specs.Exactly.{exactly}
+use Rattle.apply_theorems.specs.Exactly.{apply-exactly}
 use Rattle.accounts.specs.Accounts.{orderAsked}
 use Rattle.census.specs.Census.{countAsked}
 use Rattle.levels.specs.declared.Quote.{Quote}
@@ -24,9 +26,7 @@ use Rattle.levels.specs.Levels.{levelOf, bestOf, nextOf}
 use Rattle.replies.specs.Replies.{accountNumber, quoteNumber, countNumber}
 use Rattle.ask_theorems.specs.Statements.{inBook, Foul, QuoteExactly}
 use Rattle.ask_theorems.specs.Exactly.{order-exactly, level-exactly, best-exactly, next-exactly, count-exactly}
-use Rattle.outcomes.specs.Outcomes.{numberOf}
-use Rattle.runs.specs.Runs.{Tables, answered, reached}
-use Rattle.runs.specs.Statements.{Run, Start, start, Healthy, NoDamage, NeverDamaged}
+use Rattle.runs.specs.Statements.{Run, Start, startOf, Healthy, NoDamage, NeverDamaged}
 use Rattle.runs.specs.Orderly.{Orderly}
 use Rattle.runs.specs.Healthy.{healthy-shaped, healthy-orderly, healthy-reached}
 
@@ -51,7 +51,7 @@ check few next (inr x) = next (x .1)
 -- where no slot is broken, what is asked earns 12 or less
 earned-few : (d b : List ℕ) (k : ℕ) (a : Asked) (n : ℕ) → ((r : ℕ) → Broken b k r → ⊥) → Earned d b k a n → n ≤ 12
 earned-few d b k (register l symbol) n w = check (λ _. omega arith) (check (λ _. omega arith) (λ e. omega (arith, e)))
-earned-few d b k (begin o symbol) n w =
+earned-few d b k (start o symbol) n w =
     check (λ _. omega arith)
     (check (λ _. omega arith) (check (λ _. omega arith) (check (λ _. omega arith) (λ e. omega (arith, e)))))
 earned-few d b k (take how r l c) n w =
@@ -65,15 +65,15 @@ earned-few d b k (replace original new l c p) n w =
 earned-few d b k nothing n w = λ e. omega (arith, e)
 
 -- healthy tables give 12 or less, whatever the bytes
-pub healthy-few : (n k : ℕ) (t : Tables) (s : List ℕ) → Start n k → Healthy n k t → numberOf (answered t s) ≤ 12
-healthy-few n k t s z h = go (exactly (t .directory) (t .book) s (numberOf (answered t s)) .0 refl)
+pub healthy-few : (n k : ℕ) (t : Tables) (s : List ℕ) → Start n k → Healthy n k t → numberOf (answerTo t s) ≤ 12
+healthy-few n k t s z h = go (apply-exactly (t .directory) (t .book) s (numberOf (answerTo t s)) .0 refl)
   where
-    told : {j m : ℕ} → j ≡ k → ((number (answer s) ≡ m) × (m ≢ 0)) ⊎ Judged (t .directory) (t .book) s j m → m ≤ 12
+    told : {j m : ℕ} → j ≡ k → ((answerNumber (answer s) ≡ m) × (m ≢ 0)) ⊎ Judged (t .directory) (t .book) s j m → m ≤ 12
     told e (inl x) = omega (arith, x .0, read-exactly s .no-other)
     told {j} {m} e (inr x) =
         earned-few (t .directory) (t .book) j (asked (x .message)) m (λ r y. unbroken (healthy-orderly h) (rw e at y)) (x .earned)
 
-    go : Given (t .directory) (t .book) s (numberOf (answered t s)) → numberOf (answered t s) ≤ 12
+    go : Given (t .directory) (t .book) s (numberOf (answerTo t s)) → numberOf (answerTo t s) ≤ 12
     go (inl x) = absurd (x .0 k (healthy-shaped z h))
     go (inr x) = told (shaped-unique (x .1) (healthy-shaped z h)) (x .2)
 
@@ -82,7 +82,7 @@ healthy-few n k t s z h = go (exactly (t .directory) (t .book) s (numberOf (answ
 module _ {n k : ℕ} {t : Tables} (z : Start n k) (h : Healthy n k t) where
   -- a book: what is left are its checks
   booked-few : (checks : ℕ → ℕ → Type 0) (m : ℕ) → (checks k m → m ≤ 12) → inBook (t .book) checks m → m ≤ 12
-  booked-few checks m next (inl x) = absurd (x .0 k (record { some = z .some; few = z .few; size = h .book-length }))
+  booked-few checks m next (inl x) = absurd (x .0 k (healthy-shaped z h .book))
   booked-few checks m next (inr x) =
       let j = x .1 .0 in
       let same : j ≡ k = omega (arith, x .1 .1 .size, h .book-length) in
@@ -115,7 +115,7 @@ harmless l = (λ e. omega arith, λ e. omega arith)
 
 pub never-damaged : (n k : ℕ) (ss : List (List ℕ)) → Start n k → Run ss → NeverDamaged n k ss
 never-damaged n k ss z r =
-    let t = reached (start n k) ss in
+    let t = reached (startOf n k) ss in
     let b = t .book in
     let h = healthy-reached n k ss z r in
     record {

@@ -6,18 +6,21 @@ use Prim.Native.Nat.{ℕ, zero, suc, _+_, _*_, _/_, _%_, _^_}
 use native.Mathlib.Nat.{zero-div}
 use native.Mathlib.Omega.{arith}
 use lib.ListN.{getD, replicate, length-replicate}
-use Rattle.laws.specs.Bit.{bit}
+use Rattle.laws.specs.Definitions.{bit}
 use Rattle.messages.specs.declared.Answer.{Answer}
 use Rattle.messages.specs.declared.Answer.the-variants as read
+use Rattle.directory.specs.Directory.{unusedOf}
 use Rattle.book.specs.Book.{live, numberAt}
-use Rattle.book.specs.Shape.{Sized}
+use Rattle.book.specs.Shape.{Sized, length-sized}
 use Rattle.reader.specs.Read.{answer}
 use Rattle.decide.specs.Decide.{Verdict}
-use Rattle.decide.specs.Stored.{stored, enrolled}
+use Rattle.slots.specs.Stored.{stored}
+use Rattle.enroll.specs.Enrolled.{enrolled}
 use Rattle.steps.specs.Asked.{Asked, asked}
-use Rattle.steps.specs.Steps.{judged, slotNamed}
+use Rattle.steps.specs.Steps.{verdictOn, slotSought}
 use Rattle.apply.specs.Apply.{After, applied}
 use Rattle.apply.specs.ApplyLaws.{unread, judgement}
+use Rattle.apply.specs.Runs.{Tables, tablesAfter, reached}
 use Rattle.levels.specs.Totals.{total}
 use Rattle.levels.specs.TotalLaws.{none-total}
 use Rattle.levels.specs.Levels.{unsoundness}
@@ -29,8 +32,7 @@ use Rattle.moves.specs.Reads.{lawful}
 use Rattle.moves.specs.Facts.{Facts}
 use Rattle.moves.specs.Judged.{facts}
 use Rattle.moves.specs.Kept.{stored-length, enrolled-length, stored-numbers, enrolled-numbers}
-use Rattle.runs.specs.Runs.{Tables, onward, reached}
-use Rattle.runs.specs.Statements.{Run, Start, start, Healthy}
+use Rattle.runs.specs.Statements.{Run, Start, startOf, Healthy}
 use Rattle.runs.specs.Orderly.{Orderly, stored-orderly, enrolled-nought}
 
 -- every number of both tables fits 64 bits
@@ -53,7 +55,8 @@ all-numbers-zero : (m k s i : ℕ) → numberAt (replicate m 0) k s i ≡ 0
 unfolding numberAt
 all-numbers-zero m k s i = all-zero m (k + 4 * s + i)
 
-pub healthy-start : (n k : ℕ) → Start n k → Healthy n k (start n k)
+pub healthy-start : (n k : ℕ) → Start n k → Healthy n k (startOf n k)
+unfolding unusedOf
 healthy-start n k z =
     record {
       directory-length = length-replicate n 0;
@@ -64,7 +67,7 @@ healthy-start n k z =
       free = λ s l e i m. all-numbers-zero (257 * k) k s i;
     }
 
-pub fitting-start : (n k : ℕ) → Start n k → Fitting (start n k)
+pub fitting-start : (n k : ℕ) → Start n k → Fitting (startOf n k)
 fitting-start n k z =
     record { directory = λ i. omega (arith, all-zero n i); book = λ i. omega (arith, all-zero (257 * k) i) }
 
@@ -73,17 +76,13 @@ fitting-start n k z =
 module _ {n k : ℕ} {t : Tables} where
   pub healthy-shaped : Start n k → Healthy n k t → Shaped (t .directory) (t .book) k
   healthy-shaped z h =
-      let e = h .directory-length in
       record {
-        least = omega (arith, z .least);
-        most = omega (arith, z .most);
-        some = z .some;
-        few = z .few;
-        size = h .book-length;
+        directory = rw (h .directory-length) (z .directory);
+        book = record { some = z .book .some; few = z .book .few; size = h .book-length };
       }
 
   pub healthy-sized : Start n k → Healthy n k t → Sized (t .book) k
-  healthy-sized z h = record { size = h .book-length; most = omega (arith, z .few) }
+  healthy-sized z h = length-sized (healthy-shaped z h .book)
 
   pub healthy-orderly : Healthy n k t → Orderly (t .directory) (t .book) k
   healthy-orderly h = record { sound = h .sound; apart = h .apart; free = h .free }
@@ -96,25 +95,25 @@ module _ {n k : ℕ} {t : Tables} where
 
 -- the tables after a verdict about what is asked
 abbrev pub settledTables : Tables → ℕ → Asked → Verdict → Tables
-settledTables t k a v = record { directory = enrolled (t .directory) v; book = stored (t .book) k (slotNamed (t .book) k a) v }
+settledTables t k a v = record { directory = enrolled (t .directory) v; book = stored (t .book) k (slotSought (t .book) k a) v }
 
 -- what holds of healthy tables, and of them after any verdict with its facts, holds after a message
 pub onward-keeps : (P : Tables → Type 0) (n k : ℕ) (t : Tables) (s : List ℕ) → Start n k → Healthy n k t → Fitting t → Bytes s → P t
-    → ((a : Asked) (v : Verdict) → Facts (t .directory) (t .book) k a v → P (settledTables t k a v)) → P (onward t s)
+    → ((a : Asked) (v : Verdict) → Facts (t .directory) (t .book) k a v → P (settledTables t k a v)) → P (tablesAfter t s)
 onward-keeps P n k t s z h w y p next = go (answer s) refl
   where
     shaped : Shaped (t .directory) (t .book) k
     shaped = healthy-shaped z h
 
-    goes : {x : After} → applied (t .directory) (t .book) s ≡ x → P (record { directory = x .directory; book = x .book }) → P (onward t s)
+    goes : {x : After} → applied (t .directory) (t .book) s ≡ x → P (record { directory = x .directory; book = x .book }) → P (tablesAfter t s)
     goes e = subst (λ (x : After). P (record { directory = x .directory; book = x .book })) (sym e)
 
-    go : (x : Answer) → answer s ≡ x → P (onward t s)
+    go : (x : Answer) → answer s ≡ x → P (tablesAfter t s)
     go (read.Refused r) e = goes (unread (t .directory) (t .book) s (shaped-good shaped) e) p
     go (read.Good m) e =
         let f = facts (t .directory) (t .book) k (asked m) (healthy-sized z h) (w .book) (lawful s m y e) in
         goes (judgement (t .directory) (t .book) s (shaped-good shaped) e)
-        (rw (shaped-words shaped) (next (asked m) (judged (t .directory) (t .book) k (asked m)) f))
+        (rw (shaped-words shaped) (next (asked m) (verdictOn (t .directory) (t .book) k (asked m)) f))
 
 -- after a verdict with its facts
 settled-healthy : {n k : ℕ} {t : Tables} → Start n k → Healthy n k t → (a : Asked) (v : Verdict)
@@ -123,7 +122,7 @@ settled-healthy {n} {k} {t} z h a v f =
     let o = stored-orderly (t .directory) (t .book) k a (healthy-sized z h) (healthy-orderly h) v f in
     record {
       directory-length = enrolled-length (t .directory) v ∙ h .directory-length;
-      book-length = stored-length (t .book) k (slotNamed (t .book) k a) v ∙ h .book-length;
+      book-length = stored-length (t .book) k (slotSought (t .book) k a) v ∙ h .book-length;
       nought = enrolled-nought (t .directory) (t .book) k a v f ∙ h .nought;
       sound = o .sound;
       apart = o .apart;
@@ -135,13 +134,13 @@ settled-fitting : {t : Tables} (k : ℕ) → Fitting t → (a : Asked) (v : Verd
 settled-fitting {t} k w a v f =
     record {
       directory = enrolled-numbers (t .directory) (t .book) k a v f (w .directory);
-      book = stored-numbers (t .directory) (t .book) k a (slotNamed (t .book) k a) v f (w .book);
+      book = stored-numbers (t .directory) (t .book) k a (slotSought (t .book) k a) v f (w .book);
     }
 
-pub healthy-onward : (n k : ℕ) (t : Tables) (s : List ℕ) → Start n k → Healthy n k t → Fitting t → Bytes s → Healthy n k (onward t s)
+pub healthy-onward : (n k : ℕ) (t : Tables) (s : List ℕ) → Start n k → Healthy n k t → Fitting t → Bytes s → Healthy n k (tablesAfter t s)
 healthy-onward n k t s z h w y = onward-keeps (Healthy n k) n k t s z h w y h (settled-healthy z h)
 
-pub fitting-onward : (n k : ℕ) (t : Tables) (s : List ℕ) → Start n k → Healthy n k t → Fitting t → Bytes s → Fitting (onward t s)
+pub fitting-onward : (n k : ℕ) (t : Tables) (s : List ℕ) → Start n k → Healthy n k t → Fitting t → Bytes s → Fitting (tablesAfter t s)
 fitting-onward n k t s z h w y = onward-keeps Fitting n k t s z h w y w (settled-fitting k w)
 
 -- ---- a run
@@ -152,10 +151,7 @@ pub healthy-through : (n k : ℕ) (ss : List (List ℕ)) (t : Tables) → Start 
 healthy-through n k [] t z h w r = (h, w)
 healthy-through n k (s ∷ ss) t z h w r =
     let y = r s (here refl) in
-    healthy-through n k ss (onward t s) z (healthy-onward n k t s z h w y) (fitting-onward n k t s z h w y) λ x m. r x (there m)
+    healthy-through n k ss (tablesAfter t s) z (healthy-onward n k t s z h w y) (fitting-onward n k t s z h w y) λ x m. r x (there m)
 
-pub healthy-reached : (n k : ℕ) (ss : List (List ℕ)) → Start n k → Run ss → Healthy n k (reached (start n k) ss)
-healthy-reached n k ss z r = healthy-through n k ss (start n k) z (healthy-start n k z) (fitting-start n k z) r .0
-
-pub fitting-reached : (n k : ℕ) (ss : List (List ℕ)) → Start n k → Run ss → Fitting (reached (start n k) ss)
-fitting-reached n k ss z r = healthy-through n k ss (start n k) z (healthy-start n k z) (fitting-start n k z) r .1
+pub healthy-reached : (n k : ℕ) (ss : List (List ℕ)) → Start n k → Run ss → Healthy n k (reached (startOf n k) ss)
+healthy-reached n k ss z r = healthy-through n k ss (startOf n k) z (healthy-start n k z) (fitting-start n k z) r .0

@@ -9,10 +9,10 @@ use Rattle.decide.specs.declared.Figures.{Figures}
 use Rattle.take.specs.declared.Taking.{Taking}
 use Rattle.take.specs.declared.Taking.the-variants.{Executed, Cancelled}
 use Rattle.steps.specs.Asked.{Asked, register, start, take, close, replace, nothing, asked}
+use Rattle.apply.specs.Runs.{Said}
 use Rattle.levels.specs.Levels.{sameSide}
 use Rattle.apply.specs.declared.Outcome.{Outcome}
 use Rattle.apply.specs.declared.Outcome.the-variants.{Refused, Accepted, Moved, Replaced}
-use Rattle.runs.specs.Runs.{Said}
 
 -- what happens to the shares of an order
 pub data Event : Type 0 where
@@ -95,11 +95,11 @@ broughtBy executed n = 0
 broughtBy cancelled n = 0
 broughtBy closed n = 0
 
-abbrev pub takenBy : Event → ℕ → ℕ
-takenBy added n = 0
-takenBy executed n = n
-takenBy cancelled n = n
-takenBy closed n = n
+abbrev pub takenAway : Event → ℕ → ℕ
+takenAway added n = 0
+takenAway executed n = n
+takenAway cancelled n = n
+takenAway closed n = n
 
 abbrev pub put : ℕ → Side → ℕ → List Line → ℕ
 put locate side price [] = 0
@@ -109,4 +109,4 @@ put locate side price (x ∷ xs) =
 abbrev pub taken : ℕ → Side → ℕ → List Line → ℕ
 taken locate side price [] = 0
 taken locate side price (x ∷ xs) =
-    cond (ofLevel locate side price (x .figures)) (takenBy (x .event) (x .figures .shares)) 0 + taken locate side price xs
+    cond (ofLevel locate side price (x .figures)) (takenAway (x .event) (x .figures .shares)) 0 + taken locate side price xs

@@ -8,11 +8,9 @@ use native.Mathlib.Omega.{arith}
 use borrow.Author.Tests.{ne-eqb}
 use lib.Dec.{eqb}
 use Rattle.kinds.specs.declared.Side.{Side}
-use Rattle.kinds.specs.declared.Side.the-variants.{Buy, Sell}
+use Rattle.kinds.specs.Sides.{sideByte}
+use Rattle.kinds.specs.SideLaws.{byte-good, side-back}
 use Rattle.messages.specs.declared.Message.{Message}
-use Rattle.messages.specs.Numbers.{sideByte}
-use Rattle.messages.specs.Typed.{sideOf}
-use Rattle.wellformed.specs.WellFormed.{goodSide}
 use Rattle.orders.specs.declared.Order.{Order}
 use Rattle.orders.specs.Order.{remaining, executedBy, cancelledBy}
 use Rattle.decide.specs.Figured.{figuresOf}
@@ -22,16 +20,16 @@ use Rattle.take.specs.declared.Taking.the-variants.{Executed, Cancelled}
 use Rattle.take.specs.Taken.{takenBy}
 use Rattle.steps.specs.Asked.{asked}
 use Rattle.apply.specs.Apply.{concluded}
+use Rattle.apply.specs.Runs.{Tables, reached, said}
 use Rattle.levels.specs.Totals.{total}
 use Rattle.levels.specs.Levels.{standsAt, sharesAt, levelAt, levelOf}
 use Rattle.apply_theorems.specs.Means.{shaped-words}
 use Rattle.moves.specs.Moves.{Moved}
 use Rattle.moves.specs.Facts.{Facts}
 use Rattle.moves.specs.Altered.{altered-remaining}
-use Rattle.runs.specs.Runs.{Tables, reached, said}
 use Rattle.runs.specs.Ledger.{Event, added, executed, cancelled, closed, Line, linesOf, ledger, broughtBy, put, taken}
-use Rattle.runs.specs.Ledger.{takenBy as awayBy}
-use Rattle.runs.specs.Statements.{Run, Start, start, Healthy, standing, ByLevel}
+use Rattle.runs.specs.Ledger.{takenAway as awayBy}
+use Rattle.runs.specs.Statements.{Run, Start, startOf, Healthy, sharesShown, ByLevel}
 use Rattle.runs.specs.Healthy.{healthy-start, fitting-start, healthy-shaped, healthy-sound, healthy-reached}
 use Rattle.runs.specs.RunLaws.{by-verdict, over-run, fresh-total}
 use Rattle.runs.specs.RunLaws.{Takes, take-line, taken-weight, starts-remaining, renewed-remaining}
@@ -108,34 +106,28 @@ module _ (l : ℕ) (side : Side) (p : ℕ) where
   -- ---- a run
 
   run-links : (n k : ℕ) (ss : List (List ℕ)) → Start n k → Run ss
-      → Links k (start n k .book) (ledger (said (start n k) ss)) (reached (start n k) ss .book)
+      → Links k (startOf n k .book) (ledger (said (startOf n k) ss)) (reached (startOf n k) ss .book)
   run-links n k ss i y =
       over-run n k i (Links k) (λ b. omega arith)
       (λ t s h g z.
       by-verdict n k t s i h g z (λ a c. Links k (t .book) (linesOf a) c) (λ r. omega arith)
       (verdict-links (t .directory) (t .book) k))
       (λ b c e xs ys q r. omega (arith, q, r, put-append xs ys, taken-append xs ys))
-      ss y (start n k) (healthy-start n k i) (fitting-start n k i)
+      ss y (startOf n k) (healthy-start n k i) (fitting-start n k i)
 
 -- ---- what the question shows
 
--- a side's byte is read as that side
-side-read : (x : Side) → (goodSide (sideByte x) ≡ true) × (sideOf (sideByte x) ≡ x)
-unfolding goodSide
-side-read Buy = (refl, refl)
-side-read Sell = (refl, refl)
-
 -- the level question shows the shares that stand there
 pub level-shown : (n k : ℕ) (t : Tables) → Start n k → Healthy n k t → (l : ℕ) (side : Side) (p : ℕ)
-    → standing (levelOf (t .book) l (sideByte side) p) ≡ total (sharesAt l side p) (t .book) k
+    → sharesShown (levelOf (t .book) l (sideByte side) p) ≡ total (sharesAt l side p) (t .book) k
 unfolding levelOf levelAt
 level-shown n k t i h l side p =
-    rw (shaped-words (healthy-shaped i h), side-read side .0, side-read side .1, healthy-sound h)
-    (rw (ne-eqb k 0 (λ e. omega (arith, i .some))))
+    rw (shaped-words (healthy-shaped i h), byte-good side, side-back side, healthy-sound h)
+    (rw (ne-eqb k 0 (λ e. omega (arith, i .book .some))))
 
 -- THEOREM: what was put at a level is what was taken away there and what it shows
 pub by-level : (n k : ℕ) (ss : List (List ℕ)) → Start n k → Run ss → (l : ℕ) (side : Side) (p : ℕ) → ByLevel n k ss l side p
 by-level n k ss i y l side p =
     let h = healthy-reached n k ss i y in
     omega
-    (arith, run-links l side p n k ss i y, fresh-total (sharesAt l side p) n k, level-shown n k (reached (start n k) ss) i h l side p)
+    (arith, run-links l side p n k ss i y, fresh-total (sharesAt l side p) n k, level-shown n k (reached (startOf n k) ss) i h l side p)

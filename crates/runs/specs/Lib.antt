@@ -1,4 +1,3 @@
-pub mod Runs
 pub mod Ledger
 pub mod Statements
 pub mod Orderly

@@ -4,14 +4,15 @@ use mathlib.Core.List.{List}
 use Prim.Native.Nat.{ℕ}
 use lib.ListN.{length}
 use Rattle.messages.specs.declared.Message.{Message}
-use Rattle.messages.specs.declared.Refusal.{Refusal}
+use Rattle.refusals.specs.declared.Refusal.{Refusal}
 use Rattle.messages.specs.declared.Answer.the-variants as read
 use Rattle.book.specs.Book.{wordsOf}
 use Rattle.reader.specs.Read.{answer}
 use Rattle.steps.specs.Asked.{asked}
-use Rattle.steps.specs.Steps.{judged, slotNamed}
+use Rattle.steps.specs.Steps.{verdictOn, slotSought}
 use Rattle.apply.specs.Apply.{After, unchanged, settled, applied}
 use Rattle.apply.specs.ApplyLaws.{unread, judgement}
+use Rattle.apply.specs.Runs.{Tables, tablesAfter}
 use Rattle.apply_theorems.specs.Statements.{Shaped}
 use Rattle.apply_theorems.specs.Means.{shaped-words, shaped-good}
 use Rattle.moves.specs.Lawful.{Bytes}
@@ -20,7 +21,6 @@ use Rattle.moves.specs.Facts.{Facts}
 use Rattle.moves.specs.Judged.{facts}
 use Rattle.moves.specs.Moved.{moved}
 use Rattle.moves.specs.Reads.{lawful}
-use Rattle.runs.specs.Runs.{Tables, onward}
 use Rattle.runs.specs.Statements.{Start, Healthy}
 use Rattle.runs.specs.Healthy.{Fitting, healthy-shaped, healthy-sized}
 
@@ -39,16 +39,16 @@ module _ {n k : ℕ} {t : Tables} (z : Start n k) (h : Healthy n k t) where
   -- a message
   pub step-read : (s : List ℕ) (x : Message) → answer s ≡ read.Good x
       → applied (t .directory) (t .book) s
-      ≡ settled (t .directory) (t .book) k x (slotNamed (t .book) k (asked x)) (judged (t .directory) (t .book) k (asked x))
+      ≡ settled (t .directory) (t .book) k x (slotSought (t .book) k (asked x)) (verdictOn (t .directory) (t .book) k (asked x))
   step-read s x e =
       judgement (t .directory) (t .book) s (shaped-good shaped) e
-      ∙ ap (λ (i : ℕ). settled (t .directory) (t .book) i x (slotNamed (t .book) i (asked x)) (judged (t .directory) (t .book) i (asked x))) words
+      ∙ ap (λ (i : ℕ). settled (t .directory) (t .book) i x (slotSought (t .book) i (asked x)) (verdictOn (t .directory) (t .book) i (asked x))) words
 
   module _ (f : Fitting t) (s : List ℕ) (x : Message) (y : Bytes s) (e : answer s ≡ read.Good x) where
-    pub step-facts : Facts (t .directory) (t .book) k (asked x) (judged (t .directory) (t .book) k (asked x))
+    pub step-facts : Facts (t .directory) (t .book) k (asked x) (verdictOn (t .directory) (t .book) k (asked x))
     step-facts = facts (t .directory) (t .book) k (asked x) (healthy-sized z h) (f .book) (lawful s x y e)
 
-    pub step-moved : Moved (t .book) (onward t s .book) k (judged (t .directory) (t .book) k (asked x))
+    pub step-moved : Moved (t .book) (tablesAfter t s .book) k (verdictOn (t .directory) (t .book) k (asked x))
     step-moved =
-        subst (λ (a : After). Moved (t .book) (a .book) k (judged (t .directory) (t .book) k (asked x))) (sym (step-read s x e))
+        subst (λ (a : After). Moved (t .book) (a .book) k (verdictOn (t .directory) (t .book) k (asked x))) (sym (step-read s x e))
         (moved (t .directory) (t .book) k (asked x) (healthy-sized z h) (f .book) (lawful s x y e))

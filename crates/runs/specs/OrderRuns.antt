@@ -26,9 +26,10 @@ use Rattle.orders.specs.OrderLaws.{held-numbers}
 use Rattle.decide.specs.declared.Figures.{Figures}
 use Rattle.decide.specs.Figured.{figuresOf}
 use Rattle.decide.specs.Decide.{Verdict, refuse, enter, alter, leave, renew, enroll, pass, stepOf}
-use Rattle.decide.specs.Stored.{heldAt, seenIn}
+use Rattle.slots.specs.Stored.{heldAt, seenIn}
 use Rattle.steps.specs.Asked.{asked}
 use Rattle.apply.specs.Apply.{concluded}
+use Rattle.apply.specs.Runs.{Tables, reached, said}
 use Rattle.accounts.specs.Accounts.{accounted, orderAsked}
 use Rattle.levels.specs.Totals.{total}
 use Rattle.levels.specs.TotalLaws.{none-total}
@@ -37,9 +38,8 @@ use Rattle.moves.specs.Moves.{Moved}
 use Rattle.moves.specs.TotalMoves.{clear-held-total}
 use Rattle.moves.specs.Facts.{Facts}
 use Rattle.moves.specs.Altered.{altered-reference, altered-remaining}
-use Rattle.runs.specs.Runs.{Tables, reached, said}
 use Rattle.runs.specs.Ledger.{Event, added, executed, cancelled, closed, Line, line, linesOf, ledger, Life, noLife, booked, turned, life}
-use Rattle.runs.specs.Statements.{Run, Start, start, Healthy, shown, ByOrder}
+use Rattle.runs.specs.Statements.{Run, Start, startOf, Healthy, remainsShown, ByOrder}
 use Rattle.runs.specs.Healthy.{healthy-start, fitting-start, healthy-shaped, healthy-sized, healthy-reached}
 use Rattle.runs.specs.RunLaws.{by-verdict, over-run, fresh-total}
 use Rattle.runs.specs.RunLaws.{Takes, take-line, taken-weight, starts-remaining, renewed-remaining}
@@ -154,14 +154,14 @@ module _ (r : ℕ) where
   -- ---- a run
 
   run-evens : (n k : ℕ) (ss : List (List ℕ)) → Start n k → Run ss
-      → Evens k (start n k .book) (ledger (said (start n k) ss)) (reached (start n k) ss .book)
+      → Evens k (startOf n k .book) (ledger (said (startOf n k) ss)) (reached (startOf n k) ss .book)
   run-evens n k ss i y =
       over-run n k i (Evens k) (λ b a h. h)
       (λ t s h g z.
       by-verdict n k t s i h g z (λ u c. Evens k (t .book) (linesOf u) c) (λ u a h. h)
       (verdict-evens (t .directory) (t .book) k))
       (λ b c e xs ys q u a h. rw (life-append xs ys a) (u (life r xs a) (q a h)))
-      ss y (start n k) (healthy-start n k i) (fitting-start n k i)
+      ss y (startOf n k) (healthy-start n k i) (fitting-start n k i)
 
   -- ---- what the question shows
 
@@ -192,10 +192,10 @@ module _ (r : ℕ) where
       omega (arith, elsewhere n k t i h s e, w, one, clear-held-total b k (s .0) z (g .0) (onlyOf r) o (g .1) q)
 
   -- the order question shows what is left under the reference
-  pub order-shown : (n k : ℕ) (t : Tables) → Start n k → Healthy n k t → shown (orderAsked (t .book) r) ≡ total (onlyOf r) (t .book) k
+  pub order-shown : (n k : ℕ) (t : Tables) → Start n k → Healthy n k t → remainsShown (orderAsked (t .book) r) ≡ total (onlyOf r) (t .book) k
   unfolding orderAsked
   order-shown n k t i h =
-      rw (shaped-words (healthy-shaped i h)) (rw (ne-eqb k 0 (λ e. omega (arith, i .some))) (go (find b k r) refl))
+      rw (shaped-words (healthy-shaped i h)) (rw (ne-eqb k 0 (λ e. omega (arith, i .book .some))) (go (find b k r) refl))
     where
       b : List ℕ
       b = t .book
@@ -203,7 +203,7 @@ module _ (r : ℕ) where
       sound : (s : Slot) → find b k r ≡ At s → (o : Order) × (heldAt b k (s .0) ≡ Sound o)
       sound s e = let g = found-slot b k r s e in let x = h .sound (s .0) (g .0) (g .1) in (x .0, x .1)
 
-      go : (f : Found) → find b k r ≡ f → shown (accounted (seenIn b k f)) ≡ total (onlyOf r) b k
+      go : (f : Found) → find b k r ≡ f → remainsShown (accounted (seenIn b k f)) ≡ total (onlyOf r) b k
       go Nothing e = sym (unknown-total b k e)
       go (At s) e = let x = sound s e in rw (x .1) (sym (found-total n k t i h s (x .0) e (x .1)))
 
@@ -211,4 +211,4 @@ module _ (r : ℕ) where
 pub by-order : (n k : ℕ) (ss : List (List ℕ)) → Start n k → Run ss → (r : ℕ) → ByOrder n k ss r
 by-order n k ss i y r =
     let h = healthy-reached n k ss i y in
-    rw (order-shown r n k (reached (start n k) ss) i h) (run-evens r n k ss i y noLife (omega (arith, fresh-total (onlyOf r) n k)))
+    rw (order-shown r n k (reached (startOf n k) ss) i h) (run-evens r n k ss i y noLife (omega (arith, fresh-total (onlyOf r) n k)))

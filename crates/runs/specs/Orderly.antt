@@ -6,10 +6,8 @@ use mathlib.Core.Bool.{Bool, true, false, cond}
 use mathlib.Core.List.{List}
 use Prim.Native.Nat.{ℕ, zero, suc, _*_, _<_}
 use native.Mathlib.Omega.{arith}
-use borrow.Author.Tests.{le-leb, lt-ltb, eqb-false}
+use borrow.Author.Tests.{eqb-false}
 use lib.Dec.{eqb}
-use lib.ListN.{length, getD, length-set}
-use lib.Seq.{getD-set-same, getD-set-other}
 use Rattle.laws.specs.Bools.{true-not-false}
 use Rattle.laws.specs.Least.{same-or}
 use Rattle.kinds.specs.declared.Slot.{Slot}
@@ -19,16 +17,17 @@ use Rattle.book.specs.Finds.{holds-yes, found-slot, nowhere, free-slot}
 use Rattle.book.specs.Shape.{Sized}
 use Rattle.book.specs.Slots.{Changed, clear-changed, clear-sized}
 use Rattle.directory.specs.declared.Entry.the-variants.{Symbol}
-use Rattle.directory.specs.Directory.{entryAt, registered}
-use Rattle.directory.specs.DirectoryLaws.{inside}
+use Rattle.directory.specs.Directory.{entryAt, registered, unusedOf}
+use Rattle.directory.specs.DirectoryLaws.{registered-other, registered-same, registered-unused}
 use Rattle.orders.specs.declared.Order.{Order}
 use Rattle.orders.specs.declared.Held.the-variants.{Sound}
 use Rattle.orders.specs.Order.{remaining}
 use Rattle.orders.specs.OrderLaws.{Fit}
 use Rattle.decide.specs.Decide.{Verdict, refuse, enter, alter, leave, renew, enroll, pass}
-use Rattle.decide.specs.Stored.{heldAt, slotOf, putOrder, entered, kept, stored, enrolled}
+use Rattle.slots.specs.Stored.{entered, heldAt, kept, putOrder, slotOf, stored}
+use Rattle.enroll.specs.Enrolled.{enrolled}
 use Rattle.steps.specs.Asked.{Asked}
-use Rattle.steps.specs.Steps.{slotNamed}
+use Rattle.steps.specs.Steps.{slotSought}
 use Rattle.moves.specs.Facts.{Rests, Facts}
 use Rattle.moves.specs.Altered.{altered-reference, altered-locate, altered-fit}
 use Rattle.moves.specs.TotalMoves.{held-off, put-slot, put-held}
@@ -141,16 +140,8 @@ entered-orderly {b = b} {k} o s z h f y u e = rw e (put-orderly z (free-slot b k
 
 -- ---- registered stocks
 
-entry-is : (d : List ℕ) (l n : ℕ) → entryAt d l ≡ Symbol n → getD d l 0 ≡ n
-unfolding entryAt
-entry-is d l n e =
-    let i = inside d l n e in
-    let p : Symbol (getD d l 0) ≡ Symbol n = rw (le-leb 1 l (i .0), lt-ltb l (length d) (i .1)) at e in
-    cc
-
 pub entry-listed : {d : List ℕ} {l n : ℕ} → entryAt d l ≡ Symbol n → n ≢ 0 → Listed d l
-entry-listed {d} {l} {n} e some =
-    record { from = inside d l n e .0; inside = inside d l n e .1; some = λ q. some (sym (entry-is d l n e) ∙ q) }
+entry-listed {n = n} e some = record { symbol = n; entry = e; some = some }
 
 -- the stock of an order that rests
 rests-listed : {d b : List ℕ} {k r : ℕ} {o : Order} → Orderly d b k → Rests b k r o → Listed d (o .locate .0)
@@ -162,16 +153,11 @@ rests-listed {d} {o = o} h i =
 
 -- registering leaves a registered stock registered
 registered-listed : (d : List ℕ) (l symbol m : ℕ) → symbol ≢ 0 → Listed d m → Listed (registered d l symbol) m
-unfolding registered
-registered-listed d l symbol m some y =
-    record {
-      from = y .from;
-      inside = rw (length-set d l symbol) (y .inside);
-      some = ⊎-elim
-          (λ (e : m ≡ l) q. some (sym (getD-set-same d l symbol 0 (rw e at (y .inside))) ∙ rw e at q))
-          (λ n q. y .some (sym (getD-set-other d l m symbol 0 n) ∙ q))
-          (same-or m l);
-    }
+registered-listed d l symbol m some y = ⊎-elim
+    (λ (e : m ≡ l). subst (Listed (registered d l symbol)) (sym e)
+    (record { symbol = symbol; entry = registered-same d l (y .symbol) symbol (rw e at (y .entry)); some = some }))
+    (λ n. record { symbol = y .symbol; entry = registered-other d l symbol m n ∙ y .entry; some = y .some })
+    (same-or m l)
 
 relisted-orderly : {d e b : List ℕ} {k : ℕ} → ((l : ℕ) → Listed d l → Listed e l) → Orderly d b k → Orderly e b k
 relisted-orderly f h =
@@ -190,7 +176,7 @@ named-slot {b} {k} {d = d} v named i at h =
     subst (λ (x : ℕ). Orderly d (stored b k x v) k) (sym (at ∙ ap slotOf (i .found))) h
 
 module _ (d b : List ℕ) (k : ℕ) (a : Asked) (z : Sized b k) (h : Orderly d b k) where
-  pub stored-orderly : (v : Verdict) → Facts d b k a v → Orderly (enrolled d v) (stored b k (slotNamed b k a) v) k
+  pub stored-orderly : (v : Verdict) → Facts d b k a v → Orderly (enrolled d v) (stored b k (slotSought b k a) v) k
   stored-orderly (refuse n) f = h
   stored-orderly (enter o) f =
       entered-orderly o (f .slot) z h (f .fit) (entry-listed (f .listed) (f .symbolic .some)) (unheld b k (o .reference .0) (f .unknown))
@@ -198,17 +184,17 @@ module _ (d b : List ℕ) (k : ℕ) (a : Asked) (z : Sized b k) (h : Orderly d b
   stored-orderly (alter o o′ n) f =
       let i = f .rests in
       let e = found-slot b k (f .reference) (i .slot) (i .found) .2 in
-      named-slot (alter o o′ n) (slotNamed b k a) i (ap (slotNamed b k) (f .asks))
+      named-slot (alter o o′ n) (slotSought b k a) i (ap (slotSought b k) (f .asks))
       (kept-orderly z (i .inside) o′ h (i .alive) (e ∙ sym (altered-reference f)) (altered-fit f)
       (rw (altered-locate f) (rests-listed h i)))
   stored-orderly (leave o) f =
-      named-slot (leave o) (slotNamed b k a) (f .rests) (ap (slotNamed b k) (f .asks)) (cleared-orderly z (f .rests .inside) h)
+      named-slot (leave o) (slotSought b k a) (f .rests) (ap (slotSought b k) (f .asks)) (cleared-orderly z (f .rests .inside) h)
   stored-orderly (renew o o′) f =
       let i = f .rests in
       let s = i .slot .0 in
       let r : o′ .reference .0 ≡ f .new = ap (λ (x : Order). x .reference .0) (f .after) in
       let l : o′ .locate .0 ≡ o .locate .0 = ap (λ (x : Order). x .locate .0) (f .after) in
-      named-slot (renew o o′) (slotNamed b k a) i (ap (slotNamed b k) (f .asks))
+      named-slot (renew o o′) (slotSought b k a) i (ap (slotSought b k) (f .asks))
       (entered-orderly o′ (f .slot) (clear-sized b k s z) (cleared-orderly z (i .inside) h) (f .fit) (rw l (rests-listed h i))
       (cleared-unheld b k s (o′ .reference .0) z (i .inside) (rw r (unheld b k (f .new) (f .unknown)))) (f .free))
   stored-orderly (enroll l symbol) f = relisted-orderly (λ m y. registered-listed d l symbol m (f .symbolic .some) y) h
@@ -216,12 +202,11 @@ module _ (d b : List ℕ) (k : ℕ) (a : Asked) (z : Sized b k) (h : Orderly d b
 
 -- number 0 of the directory stays
 module _ (d b : List ℕ) (k : ℕ) (a : Asked) where
-  pub enrolled-nought : (v : Verdict) → Facts d b k a v → getD (enrolled d v) 0 0 ≡ getD d 0 0
-  unfolding registered
+  pub enrolled-nought : (v : Verdict) → Facts d b k a v → unusedOf (enrolled d v) ≡ unusedOf d
   enrolled-nought (refuse n) f = refl
   enrolled-nought (enter o) f = refl
   enrolled-nought (alter o o′ n) f = refl
   enrolled-nought (leave o) f = refl
   enrolled-nought (renew o o′) f = refl
-  enrolled-nought (enroll l symbol) f = getD-set-other d l 0 symbol 0 (λ q. omega (arith, f .from))
+  enrolled-nought (enroll l symbol) f = registered-unused d l symbol (f .from)
   enrolled-nought pass f = refl

@@ -6,14 +6,13 @@ use mathlib.Core.List.{List, [], _∷_, List·Memᴰ as Among, List·Memᴰ·hea
 use Prim.Native.Nat.{ℕ}
 use native.Mathlib.Omega.{arith}
 use lib.Dec.{eqb}
+use Rattle.refusals.specs.Refusals.{FIELD}
 use Rattle.kinds.specs.declared.Side.{Side}
 use Rattle.kinds.specs.declared.Side.the-variants.{Buy, Sell}
+use Rattle.kinds.specs.Sides.{sideByte, sideOf, goodSide}
 use Rattle.messages.specs.declared.Message.{Message}
 use Rattle.messages.specs.declared.Answer.{Answer}
 use Rattle.messages.specs.declared.Answer.the-variants as read
-use Rattle.messages.specs.Numbers.{sideByte}
-use Rattle.messages.specs.Typed.{sideOf}
-use Rattle.wellformed.specs.WellFormed.{goodSide}
 use Rattle.orders.specs.declared.Order.{Order}
 use Rattle.orders.specs.declared.Held.{Held}
 use Rattle.orders.specs.declared.Held.the-variants.{Sound}
@@ -26,20 +25,20 @@ use Rattle.take.specs.declared.Taking.the-variants.{Executed, Cancelled}
 use Rattle.take.specs.Taken.{takenBy}
 use Rattle.reader.specs.Read.{answer}
 use Rattle.steps.specs.Asked.{start, take, close, replace, asked}
-use Rattle.steps.specs.Steps.{judged}
+use Rattle.steps.specs.Steps.{verdictOn}
 use Rattle.apply.specs.declared.Outcome.{Outcome}
 use Rattle.apply.specs.declared.Outcome.the-variants.{Moved, Replaced}
 use Rattle.apply.specs.Apply.{After, concluded}
+use Rattle.apply.specs.Runs.{Tables, tablesAfter, answerTo}
 use Rattle.accounts.specs.Accounts.{accounted, orderAsked}
 use Rattle.levels.specs.declared.Level.{Level}
 use Rattle.levels.specs.declared.Quote.the-variants.{Stands}
-use Rattle.levels.specs.Levels.{standsAt, sharesAt, ordersAt, refused, levelAt, levelOf}
+use Rattle.levels.specs.Levels.{standsAt, sharesAt, ordersAt, noQuote, levelAt, levelOf}
 use Rattle.levels.specs.Totals.{total}
 use Rattle.moves.specs.Lawful.{Bytes}
 use Rattle.moves.specs.Moves.{takenOut, putIn}
 use Rattle.moves.specs.Facts.{Facts}
 use Rattle.moves.specs.Altered.{altered-reference}
-use Rattle.runs.specs.Runs.{Tables, onward, answered}
 use Rattle.runs.specs.Ledger.{line, takenAs, Line, linesOf, ofLevel}
 use Rattle.runs.specs.Ledger.Event.{added, closed}
 use Rattle.runs.specs.Statements.{Start, Healthy, Touches, Concerns, OnlyItsOwn}
@@ -155,49 +154,49 @@ off false n = refl
 
 module _ (n k : ℕ) (t : Tables) (s : List ℕ) (z : Start n k) (h : Healthy n k t) (f : Fitting t) (bytes : Bytes s) where
   -- a weight of 0 on all orders that are mentioned has the same total after
-  total-stays : (w : Held → ℕ) → ((o : Order) → Mentions (linesOf (answered t s)) o → w (Sound o) ≡ 0)
-      → total w (onward t s .book) k ≡ total w (t .book) k
+  total-stays : (w : Held → ℕ) → ((o : Order) → Mentions (linesOf (answerTo t s)) o → w (Sound o) ≡ 0)
+      → total w (tablesAfter t s .book) k ≡ total w (t .book) k
   total-stays w q = go (answer s) refl
     where
-      go : (a : Answer) → answer s ≡ a → total w (onward t s .book) k ≡ total w (t .book) k
+      go : (a : Answer) → answer s ≡ a → total w (tablesAfter t s .book) k ≡ total w (t .book) k
       go (read.Refused r) e = ap (λ (a : After). total w (a .book) k) (step-unread z h s r e)
       go (read.Good x) e =
-          let v = judged (t .directory) (t .book) k (asked x) in
+          let v = verdictOn (t .directory) (t .book) k (asked x) in
           let p = ap (λ (a : After). a .outcome) (step-read z h s x e) in
           let m = step-moved z h f s x bytes e in
           let still = quiet w (t .directory) (t .book) k x v (step-facts z h f s x bytes e)
           (λ o y. q o (subst (λ (c : Outcome). Mentions (linesOf c) o) (sym p) y)) in
           omega (arith, m .took w, m .gave w, still .0, still .1)
 
-  onward-healthy : Healthy n k (onward t s)
+  onward-healthy : Healthy n k (tablesAfter t s)
   onward-healthy = healthy-onward n k t s z h f bytes
 
-  accounts-stay : (r : ℕ) → (Concerns r (linesOf (answered t s)) → ⊥) → orderAsked (onward t s .book) r ≡ orderAsked (t .book) r
+  accounts-stay : (r : ℕ) → (Concerns r (linesOf (answerTo t s)) → ⊥) → orderAsked (tablesAfter t s .book) r ≡ orderAsked (t .book) r
   accounts-stay r none =
       order-seen z onward-healthy r
-      ∙ ap accounted (seen-same n k n k (onward t s) t r onward-healthy h λ o e.
+      ∙ ap accounted (seen-same n k n k (tablesAfter t s) t r onward-healthy h λ o e.
       total-stays (isOrder o) λ o′ y. is-other o o′ λ q. none (y .by, y .among, y .reference ∙ q ∙ e))
       ∙ sym (order-seen z h r)
 
   -- no order that is mentioned stands at a level that no line is about
-  not-there : (l : ℕ) (side : Side) (p : ℕ) → (Touches l side p (linesOf (answered t s)) → ⊥)
-      → (o : Order) → Mentions (linesOf (answered t s)) o → standsAt l side p o ≡ false
+  not-there : (l : ℕ) (side : Side) (p : ℕ) → (Touches l side p (linesOf (answerTo t s)) → ⊥)
+      → (o : Order) → Mentions (linesOf (answerTo t s)) o → standsAt l side p o ≡ false
   not-there l side p none o y = off (standsAt l side p o) λ q. none (y .by, y .among, y .level l side p ∙ q)
 
-  level-stays : (l : ℕ) (side : Side) (p : ℕ) → (Touches l side p (linesOf (answered t s)) → ⊥)
-      → levelOf (onward t s .book) l (sideByte side) p ≡ levelOf (t .book) l (sideByte side) p
+  level-stays : (l : ℕ) (side : Side) (p : ℕ) → (Touches l side p (linesOf (answerTo t s)) → ⊥)
+      → levelOf (tablesAfter t s .book) l (sideByte side) p ≡ levelOf (t .book) l (sideByte side) p
   level-stays l side p none =
       level-stands z onward-healthy l (sideByte side) p
-      ∙ ap (λ (x : Level). cond (goodSide (sideByte side)) (Stands x) (refused 4))
+      ∙ ap (λ (x : Level). cond (goodSide (sideByte side)) (Stands x) (noQuote FIELD))
       (read-back side stays)
       ∙ sym (level-stands z h l (sideByte side) p)
     where
       same : Side → Type 0
-      same i = levelAt (onward t s .book) k l i p ≡ levelAt (t .book) k l i p
+      same i = levelAt (tablesAfter t s .book) k l i p ≡ levelAt (t .book) k l i p
 
       stays : same side
       stays =
-          level-same (onward t s .book) k (t .book) k l side p
+          level-same (tablesAfter t s .book) k (t .book) k l side p
           (total-stays (sharesAt l side p) λ o y. ap (λ (c : Bool). cond c (remaining o) 0) (not-there l side p none o y))
           (total-stays (ordersAt l side p) λ o y. ap (λ (c : Bool). cond c 1 0) (not-there l side p none o y))
 

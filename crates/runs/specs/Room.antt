@@ -8,12 +8,13 @@ use native.Mathlib.Omega.{arith}
 use borrow.Author.Tests.{eq-eqb, ne-eqb, lt-ltb, le-ltb}
 use lib.Dec.{eqb, ltb}
 use Rattle.laws.specs.Bools.{true-not-false}
-use Rattle.laws.specs.Sum.{sumTo, sum-ext, sum-le, sum-change}
+use Rattle.laws.specs.Sum.{sum-ext, sum-le, sum-change}
+use Rattle.laws.specs.Definitions.{sumTo}
 use Rattle.book.specs.declared.Found.{Found}
 use Rattle.book.specs.declared.Found.the-variants.{At, Nothing}
 use Rattle.book.specs.Book.{live, isFree, lowestFree}
 use Rattle.book.specs.Finds.{free-yes, free-slot, full}
-use Rattle.decide.specs.Stored.{isAt}
+use Rattle.slots.specs.Stored.{isAt}
 use Rattle.levels.specs.TotalLaws.{live-cases}
 use Rattle.census.specs.Census.{liveCount}
 

@@ -10,7 +10,7 @@ use borrow.Author.Tests.{eqb-true}
 use lib.Dec.{eqb}
 use lib.ListN.{replicate}
 use Rattle.messages.specs.declared.Message.{Message}
-use Rattle.messages.specs.declared.Refusal.{Refusal}
+use Rattle.refusals.specs.declared.Refusal.{Refusal}
 use Rattle.messages.specs.declared.Answer.{Answer}
 use Rattle.messages.specs.declared.Answer.the-variants as read
 use Rattle.reader.specs.Read.{answer}
@@ -22,11 +22,12 @@ use Rattle.decide.specs.Decide.{Verdict, stepOf, renewed}
 use Rattle.take.specs.declared.Taking.{Taking}
 use Rattle.take.specs.declared.Taking.the-variants.{Executed, Cancelled}
 use Rattle.steps.specs.Asked.{Asked, take, asked}
-use Rattle.steps.specs.Steps.{judged, slotNamed}
+use Rattle.steps.specs.Steps.{verdictOn, slotSought}
 use Rattle.apply.specs.declared.Outcome.{Outcome}
 use Rattle.apply.specs.declared.Outcome.the-variants.{Refused, Moved}
 use Rattle.apply.specs.Apply.{After, concluded, settled, applied}
 use Rattle.apply.specs.ApplyLaws.{unread, judgement}
+use Rattle.apply.specs.Runs.{Tables, tablesAfter, answerTo, reached, said}
 use Rattle.levels.specs.Totals.{total}
 use Rattle.levels.specs.TotalLaws.{none-total}
 use Rattle.apply_theorems.specs.Statements.{Shaped}
@@ -37,9 +38,8 @@ use Rattle.moves.specs.Facts.{Renewing, Facts}
 use Rattle.moves.specs.Judged.{facts}
 use Rattle.moves.specs.Moved.{moves}
 use Rattle.moves.specs.Reads.{lawful}
-use Rattle.runs.specs.Runs.{Tables, onward, answered, reached, said}
 use Rattle.runs.specs.Ledger.{Event, added, executed, cancelled, closed, Line, line, linesOf, ledger}
-use Rattle.runs.specs.Statements.{Run, Start, start, Healthy}
+use Rattle.runs.specs.Statements.{Run, Start, startOf, Healthy}
 use Rattle.runs.specs.Healthy.{Fitting, none-live, healthy-onward, fitting-onward, healthy-shaped, healthy-sized}
 
 -- ---- one message
@@ -50,7 +50,7 @@ pub by-verdict : (n k : ℕ) (t : Tables) (s : List ℕ) → Start n k → Healt
     → ((r : Refusal) → P (Refused r) (t .book))
     → ((x : Message) (v : Verdict) (b′ : List ℕ) → Facts (t .directory) (t .book) k (asked x) v → Moves (t .book) b′ k v
     → P (concluded x (stepOf v)) b′)
-    → P (answered t s) (onward t s .book)
+    → P (answerTo t s) (tablesAfter t s .book)
 by-verdict n k t s i h g y P refused came = go (answer s) refl
   where
     d : List ℕ
@@ -69,29 +69,29 @@ by-verdict n k t s i h g y P refused came = go (answer s) refl
     go (read.Refused r) e = subst Q (sym (unread d b s (shaped-good shaped) e)) (refused r)
     go (read.Good x) e =
         let z = healthy-sized i h in
-        let v = judged d b k (asked x) in
+        let v = verdictOn d b k (asked x) in
         let f = facts d b k (asked x) z (g .book) (lawful s x y e) in
-        let here : Q (settled d b k x (slotNamed b k (asked x)) v) = came x v _ f (moves d b k (asked x) z v f) in
+        let here : Q (settled d b k x (slotSought b k (asked x)) v) = came x v _ f (moves d b k (asked x) z v f) in
         subst Q (sym (judgement d b s (shaped-good shaped) e))
-        (subst (λ (m : ℕ). Q (settled d b m x (slotNamed b m (asked x)) (judged d b m (asked x)))) (sym (shaped-words shaped)) here)
+        (subst (λ (m : ℕ). Q (settled d b m x (slotSought b m (asked x)) (verdictOn d b m (asked x)))) (sym (shaped-words shaped)) here)
 
 -- ---- a run
 
 -- R links a book to itself without lines, to the book after a message by its lines, and chains: it links both ends of a run
 pub over-run : (n k : ℕ) → Start n k → (R : List ℕ → List Line → List ℕ → Type 0)
     → ((b : List ℕ) → R b [] b)
-    → ((t : Tables) (s : List ℕ) → Healthy n k t → Fitting t → Bytes s → R (t .book) (linesOf (answered t s)) (onward t s .book))
+    → ((t : Tables) (s : List ℕ) → Healthy n k t → Fitting t → Bytes s → R (t .book) (linesOf (answerTo t s)) (tablesAfter t s .book))
     → ((b c e : List ℕ) (xs ys : List Line) → R b xs c → R c ys e → R b (xs ++ ys) e)
     → (ss : List (List ℕ)) → Run ss → (t : Tables) → Healthy n k t → Fitting t → R (t .book) (ledger (said t ss)) (reached t ss .book)
 over-run n k i R none one both [] y t h g = none (t .book)
 over-run n k i R none one both (s ∷ ss) y t h g =
     let b = y s (here refl) in
-    let u = onward t s in
-    both (t .book) (u .book) (reached u ss .book) (linesOf (answered t s)) (ledger (said u ss)) (one t s h g b)
+    let u = tablesAfter t s in
+    both (t .book) (u .book) (reached u ss .book) (linesOf (answerTo t s)) (ledger (said u ss)) (one t s h g b)
     (over-run n k i R none one both ss (λ u m. y u (there m)) u (healthy-onward n k t s i h g b) (fitting-onward n k t s i h g b))
 
 -- nothing has weight in a book made fresh
-pub fresh-total : (w : Held → ℕ) (n k : ℕ) → total w (start n k .book) k ≡ 0
+pub fresh-total : (w : Held → ℕ) (n k : ℕ) → total w (startOf n k .book) k ≡ 0
 fresh-total w n k = none-total w (replicate (257 * k) 0) k λ s l e. absurd (omega (arith, none-live (257 * k) s, e))
 
 -- ---- the lines of the ledger

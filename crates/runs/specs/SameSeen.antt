@@ -20,11 +20,11 @@ use Rattle.orders.specs.declared.Held.{Held}
 use Rattle.orders.specs.declared.Held.the-variants.{Sound, Unsound}
 use Rattle.orders.specs.Order.{second, third, fourth, held}
 use Rattle.orders.specs.OrderLaws.{held-numbers}
-use Rattle.decide.specs.Decide.{Seen, nothing, something}
-use Rattle.decide.specs.Stored.{heldAt, seenIn, isAt}
+use Rattle.decide.specs.Decide.{Seen, unseen, something}
+use Rattle.slots.specs.Stored.{heldAt, isAt, seenIn}
+use Rattle.apply.specs.Runs.{Tables}
 use Rattle.levels.specs.Totals.{total}
 use Rattle.levels.specs.TotalLaws.{total-none, some-total}
-use Rattle.runs.specs.Runs.{Tables}
 use Rattle.runs.specs.Statements.{Healthy}
 
 -- ---- the weight
@@ -152,7 +152,7 @@ seen-same n k n′ m t u r hb hc same = go (find (t .book) k r) refl (find (u .b
     go Nothing p Nothing q = refl
 
 abbrev wasSeen : Seen → Bool
-wasSeen nothing = false
+wasSeen unseen = false
 wasSeen (something h) = true
 
 -- and so both are found, or neither

@@ -4,15 +4,19 @@ use mathlib.Core.Path.{_≡_}
 use mathlib.Core.Bool.{true}
 use mathlib.Core.Logic.{_≢_}
 use mathlib.Core.List.{List, List·Memᴰ as Among}
-use Prim.Native.Nat.{ℕ, _+_, _*_, _≤_, _<_}
-use lib.ListN.{length, getD}
+use Prim.Native.Nat.{ℕ, _+_, _*_, _<_}
+use lib.ListN.{length}
 use Rattle.kinds.specs.declared.Side.{Side}
-use Rattle.messages.specs.Numbers.{sideByte}
-use Rattle.book.specs.Book.{live, numberAt}
+use Rattle.kinds.specs.Sides.{sideByte}
+use Rattle.directory.specs.declared.Entry.the-variants.{Symbol}
+use Rattle.directory.specs.Directory.{DirectoryLength, unusedOf, entryAt}
+use Rattle.book.specs.Book.{BookLength, live, numberAt}
 use Rattle.orders.specs.declared.Order.{Order}
 use Rattle.orders.specs.declared.Held.{Held}
 use Rattle.orders.specs.declared.Held.the-variants.{Sound}
-use Rattle.decide.specs.Stored.{heldAt}
+use Rattle.slots.specs.Stored.{heldAt}
+use Rattle.apply.specs.Apply.{numberOf}
+use Rattle.apply.specs.Runs.{Tables, Said, made, freshTables, tablesAfter, answerTo, reached, said}
 use Rattle.accounts.specs.declared.Accounted.{Accounted}
 use Rattle.accounts.specs.declared.Accounted.the-variants as account
 use Rattle.accounts.specs.Accounts.{orderAsked}
@@ -24,8 +28,6 @@ use Rattle.levels.specs.Totals.{total}
 use Rattle.replies.specs.Replies.{accountNumber, quoteNumber, countNumber}
 use Rattle.fresh.specs.Fresh.{madeNumber, madeOf}
 use Rattle.moves.specs.Lawful.{Bytes}
-use Rattle.outcomes.specs.Outcomes.{numberOf}
-use Rattle.runs.specs.Runs.{Tables, Said, made, freshTables, onward, answered, reached, said}
 use Rattle.runs.specs.Ledger.{Line, noLife, life, linesOf, ledger, ofLevel, put, taken}
 
 -- any byte strings, in any order
@@ -34,45 +36,43 @@ Run ss = (s : List ℕ) → Among s ss → Bytes s
 
 -- fresh tables of good shapes: a directory of n numbers, a book of 257 k
 pub record Start (n k : ℕ) : Type 0 where
-  pub least : 2 ≤ n
-  pub most : n ≤ 8192
-  pub some : 1 ≤ k
-  pub few : k ≤ 64
+  pub directory : DirectoryLength n
+  pub book : BookLength (257 * k) k
 
-abbrev pub start : ℕ → ℕ → Tables
-start n k = freshTables n (257 * k)
+abbrev pub startOf : ℕ → ℕ → Tables
+startOf n k = freshTables n (257 * k)
 
--- of tables of those lengths, whatever they held, the call to make them fresh answers 0 and leaves `start`
+-- of tables of those lengths, whatever they held, the call to make them fresh answers 0 and leaves `startOf`
 pub record MadeStart (n k : ℕ) (d b : List ℕ) : Type 0 where
   pub number : madeNumber (madeOf d b) ≡ 0
-  pub tables : made d b ≡ start n k
+  pub tables : made d b ≡ startOf n k
 
 -- ---- 1. by order
 
 -- what the order question shows: what remains, 0 where no order is live
-abbrev pub shown : Accounted → ℕ
-shown (account.Refused r) = 0
-shown (account.Is a) = a .remaining
+abbrev pub remainsShown : Accounted → ℕ
+remainsShown (account.Refused r) = 0
+remainsShown (account.Is a) = a .remaining
 
 -- shares added = executed + cancelled + reported as closed + shown
 abbrev pub ByOrder : ℕ → ℕ → List (List ℕ) → ℕ → Type 0
 ByOrder n k ss r =
-    let a = life r (ledger (said (start n k) ss)) noLife in
-    a .added ≡ a .executed + a .cancelled + a .closed + shown (orderAsked (reached (start n k) ss .book) r)
+    let a = life r (ledger (said (startOf n k) ss)) noLife in
+    a .added ≡ a .executed + a .cancelled + a .closed + remainsShown (orderAsked (reached (startOf n k) ss .book) r)
 
 -- ---- 2. by level
 
 -- what the level question shows
-abbrev pub standing : Quote → ℕ
-standing (quote.Refused r) = 0
-standing quote.Nothing = 0
-standing (quote.Stands l) = l .shares
+abbrev pub sharesShown : Quote → ℕ
+sharesShown (quote.Refused r) = 0
+sharesShown quote.Nothing = 0
+sharesShown (quote.Stands l) = l .shares
 
 -- what was put there = what was taken away + the total shown
 abbrev pub ByLevel : ℕ → ℕ → List (List ℕ) → ℕ → Side → ℕ → Type 0
 ByLevel n k ss l side p =
-    let xs = ledger (said (start n k) ss) in
-    put l side p xs ≡ taken l side p xs + standing (levelOf (reached (start n k) ss .book) l (sideByte side) p)
+    let xs = ledger (said (startOf n k) ss) in
+    put l side p xs ≡ taken l side p xs + sharesShown (levelOf (reached (startOf n k) ss .book) l (sideByte side) p)
 
 -- ---- 3. no table damage by us
 
@@ -82,15 +82,15 @@ Zero b k s = (i : ℕ) → i < 4 → numberAt b k s i ≡ 0
 
 -- an order's stock is registered
 pub record Listed (d : List ℕ) (l : ℕ) : Type 0 where
-  pub from : 1 ≤ l
-  pub inside : l < length d
-  pub some : getD d l 0 ≢ 0
+  pub symbol : ℕ
+  pub entry : entryAt d l ≡ Symbol symbol
+  pub some : symbol ≢ 0
 
 pub record Healthy (n k : ℕ) (t : Tables) : Type 0 where
   pub directory-length : length (t .directory) ≡ n
   pub book-length : length (t .book) ≡ 257 * k
   -- number 0 of the directory is 0
-  pub nought : getD (t .directory) 0 0 ≡ 0
+  pub nought : unusedOf (t .directory) ≡ 0
   -- live slots are sound, and their stocks registered
   pub sound : (s : ℕ) → s < 64 * k → live (t .book) s ≡ 1 → (o : Order) × (heldAt (t .book) k s ≡ Sound o) × Listed (t .directory) (o .locate .0)
   -- references of live slots are all different
@@ -104,13 +104,13 @@ NoDamage number = (number ≢ 13) × (number ≢ 14)
 
 -- after any run 13 and 14 are given to no message and to no question
 pub record NeverDamaged (n k : ℕ) (ss : List (List ℕ)) : Type 0 where
-  pub healthy : Healthy n k (reached (start n k) ss)
-  pub message : (s : List ℕ) → NoDamage (numberOf (answered (reached (start n k) ss) s))
-  pub order : (r : ℕ) → NoDamage (accountNumber (orderAsked (reached (start n k) ss .book) r))
-  pub level : (l byte p : ℕ) → NoDamage (quoteNumber (levelOf (reached (start n k) ss .book) l byte p))
-  pub best : (l byte : ℕ) → NoDamage (quoteNumber (bestOf (reached (start n k) ss .book) l byte))
-  pub next : (l byte p : ℕ) → NoDamage (quoteNumber (nextOf (reached (start n k) ss .book) l byte p))
-  pub count : NoDamage (countNumber (countAsked (reached (start n k) ss .book)))
+  pub healthy : Healthy n k (reached (startOf n k) ss)
+  pub message : (s : List ℕ) → NoDamage (numberOf (answerTo (reached (startOf n k) ss) s))
+  pub order : (r : ℕ) → NoDamage (accountNumber (orderAsked (reached (startOf n k) ss .book) r))
+  pub level : (l byte p : ℕ) → NoDamage (quoteNumber (levelOf (reached (startOf n k) ss .book) l byte p))
+  pub best : (l byte : ℕ) → NoDamage (quoteNumber (bestOf (reached (startOf n k) ss .book) l byte))
+  pub next : (l byte p : ℕ) → NoDamage (quoteNumber (nextOf (reached (startOf n k) ss .book) l byte p))
+  pub count : NoDamage (countNumber (countAsked (reached (startOf n k) ss .book)))
 
 -- ---- 4. slots do not show
 
@@ -135,12 +135,12 @@ pub record AskedAlike (b c : List ℕ) : Type 0 where
 
 -- a message gives the same answer, and leaves alike what was alike
 pub record StepsAlike (n k m : ℕ) (t u : Tables) (s : List ℕ) : Type 0 where
-  pub answer : answered t s ≡ answered u s
-  pub tables : Alike n k m (onward t s) (onward u s)
+  pub answer : answerTo t s ≡ answerTo u s
+  pub tables : Alike n k m (tablesAfter t s) (tablesAfter u s)
 
 -- neither answers FULL
 abbrev pub BothRoom : Tables → Tables → List ℕ → Type 0
-BothRoom t u s = (numberOf (answered t s) ≢ 12) × (numberOf (answered u s) ≢ 12)
+BothRoom t u s = (numberOf (answerTo t s) ≢ 12) × (numberOf (answerTo u s) ≢ 12)
 
 -- ---- 5. books agree
 
@@ -157,9 +157,9 @@ NeverFull xs = (x : Said) → Among x xs → numberOf (x .outcome) ≢ 12
 
 -- two tasks whose books differ in size, made fresh and lent the same messages
 pub record Agree (n k m : ℕ) (ss : List (List ℕ)) : Type 0 where
-  pub answers : said (start n k) ss ≡ said (start n m) ss
-  pub tables : Alike n k m (reached (start n k) ss) (reached (start n m) ss)
-  pub questions : AskedAlike (reached (start n k) ss .book) (reached (start n m) ss .book)
+  pub answers : said (startOf n k) ss ≡ said (startOf n m) ss
+  pub tables : Alike n k m (reached (startOf n k) ss) (reached (startOf n m) ss)
+  pub questions : AskedAlike (reached (startOf n k) ss .book) (reached (startOf n m) ss .book)
 
 -- ---- 6. only its own
 
@@ -173,6 +173,6 @@ Concerns r xs = (x : Line) × Among x xs × (x .reference ≡ r)
 
 -- every other order's account and every other level is as before
 pub record OnlyItsOwn (t : Tables) (s : List ℕ) : Type 0 where
-  pub accounts : (r : ℕ) → (Concerns r (linesOf (answered t s)) → ⊥) → orderAsked (onward t s .book) r ≡ orderAsked (t .book) r
-  pub levels : (l : ℕ) (side : Side) (p : ℕ) → (Touches l side p (linesOf (answered t s)) → ⊥)
-      → levelOf (onward t s .book) l (sideByte side) p ≡ levelOf (t .book) l (sideByte side) p
+  pub accounts : (r : ℕ) → (Concerns r (linesOf (answerTo t s)) → ⊥) → orderAsked (tablesAfter t s .book) r ≡ orderAsked (t .book) r
+  pub levels : (l : ℕ) (side : Side) (p : ℕ) → (Touches l side p (linesOf (answerTo t s)) → ⊥)
+      → levelOf (tablesAfter t s .book) l (sideByte side) p ≡ levelOf (t .book) l (sideByte side) p

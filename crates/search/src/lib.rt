@@ -3,7 +3,7 @@ ghost use mathlib.Core.Path.{_≡_};
 ghost use mathlib.Core.Bool.{false};
 ghost use Prim.Native.Nat.{ℕ, _+_, _≤_, _<_};
 ghost use lib.ListN.{length};
-ghost use Rattle.laws.specs.Least.{least};
+ghost use Rattle.laws.specs.Definitions.{least};
 ghost use Rattle.book.specs.Book.{find};
 ghost use Rattle.book.specs.Eights.{NoneOfEight};
 ghost use Rattle.book.specs.Shape.{Sized};

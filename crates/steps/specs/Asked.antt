@@ -1,6 +1,5 @@
 -- What a message asks of the tables (01, 'What each message does'): 23 kinds of message ask for six kinds of thing. Assumes nothing.
 use Prim.Native.Nat.{ℕ}
-use Rattle.kinds.specs.declared.Locate.{Locate}
 use Rattle.kinds.specs.declared.Reference.{Reference}
 use Rattle.kinds.specs.declared.Price.{Price}
 use Rattle.kinds.specs.declared.Side.{Side}

@@ -81,7 +81,8 @@ fn order_executed(book: &mut [u64], k: usize, m: OrderExecuted) -> Step
     let locate = head.stock_locate;
     let reference = m.order_reference_number;
     let executed = m.executed_shares;
-    take::take(book, k, reference, locate, executed, Taking::Executed)
+    let found = search::find(book, k, reference);
+    take::take(book, k, found, locate, executed, Taking::Executed)
 }
 
 // C: its execution price never moves the order's level.
@@ -93,7 +94,8 @@ fn order_executed_with_price(book: &mut [u64], k: usize, m: OrderExecutedWithPri
     let locate = head.stock_locate;
     let reference = m.order_reference_number;
     let printed = m.executed_shares;
-    take::take(book, k, reference, locate, printed, Taking::Executed)
+    let found = search::find(book, k, reference);
+    take::take(book, k, found, locate, printed, Taking::Executed)
 }
 
 fn order_cancel(book: &mut [u64], k: usize, m: OrderCancel) -> Step
@@ -104,7 +106,8 @@ fn order_cancel(book: &mut [u64], k: usize, m: OrderCancel) -> Step
     let locate = head.stock_locate;
     let reference = m.order_reference_number;
     let cancelled = m.cancelled_shares;
-    take::take(book, k, reference, locate, cancelled, Taking::Cancelled)
+    let found = search::find(book, k, reference);
+    take::take(book, k, found, locate, cancelled, Taking::Cancelled)
 }
 
 fn order_delete(book: &mut [u64], k: usize, m: OrderDelete) -> Step
@@ -114,7 +117,8 @@ fn order_delete(book: &mut [u64], k: usize, m: OrderDelete) -> Step
     let head = m.head;
     let locate = head.stock_locate;
     let reference = m.order_reference_number;
-    take::delete(book, k, reference, locate)
+    let found = search::find(book, k, reference);
+    take::delete(book, k, found, locate)
 }
 
 fn order_replace(book: &mut [u64], k: usize, m: OrderReplace) -> Step
@@ -126,7 +130,8 @@ fn order_replace(book: &mut [u64], k: usize, m: OrderReplace) -> Step
     let original = m.original_order_reference_number;
     let new = m.new_order_reference_number;
     let price = m.price;
-    replace::replace(book, k, original, new, locate, m.shares, price)
+    let found = search::find(book, k, original);
+    replace::replace(book, k, found, original, new, locate, m.shares, price)
 }
 
 // R registers its symbol.

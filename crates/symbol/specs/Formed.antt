@@ -9,15 +9,16 @@ use lib.Dec.{eqb}
 use lib.ListN.{length}
 use Rattle.laws.specs.Bools.{and-right}
 use Rattle.laws.specs.Field.{field}
+use Rattle.refusals.specs.Refusals.{LENGTH, TYPE}
 use Rattle.text.specs.Text.{text}
 use Rattle.layout.specs.Kind.{Kind, Cell}
-use Rattle.layout.specs.Kind.Kind.{number, time, shares, price4, price8, text as texts, side, printable, code, alpha, reserved}
+use Rattle.layout.specs.Kind.Kind.{number, time, shares, price4, price8, texts, side, printable, code, alpha, reserved}
 use Rattle.layout.specs.Layout.{cellsOf, lengthOf}
 use Rattle.messages.specs.declared.Answer.{Answer}
 use Rattle.messages.specs.declared.Answer.the-variants.{Good}
 use Rattle.messages.specs.declared.Message.{Message}
 use Rattle.wellformed.specs.WellFormed.{good, earns, valueAt, wrong, faulty, refusal}
-use Rattle.reader.specs.Read.{LENGTH, TYPE, refused, typeOf, judgedAs, answer}
+use Rattle.reader.specs.Read.{noMessage, typeOf, judgedAs, answer}
 use Rattle.symbol.specs.Symbol.{isText, isStock, stockIn, stockAt, stockOf, isGood}
 
 pub record Formed (s : List ℕ) : Type 0 where
@@ -26,14 +27,14 @@ pub record Formed (s : List ℕ) : Type 0 where
   pub faultless : refusal s (cellsOf (typeOf s)) ≡ 0
 
 -- the answer is Good only where no test refused
-passed : (a b c : Bool) (x : Answer) → isGood (cond a (refused LENGTH) (cond b (refused TYPE) (cond c x (refused LENGTH)))) ≡ true
+passed : (a b c : Bool) (x : Answer) → isGood (cond a (noMessage LENGTH) (cond b (noMessage TYPE) (cond c x (noMessage LENGTH)))) ≡ true
     → (a ≡ false) × (c ≡ true) × (isGood x ≡ true)
 passed true b c x e = absurd (false≢true e)
 passed false true c x e = absurd (false≢true e)
 passed false false false x e = absurd (false≢true e)
 passed false false true x e = (refl, refl, e)
 
-judged-good : (n : ℕ) (b : Bool) (m : Message) → isGood (cond b (Good m) (refused n)) ≡ true → b ≡ true
+judged-good : (n : ℕ) (b : Bool) (m : Message) → isGood (cond b (Good m) (noMessage n)) ≡ true → b ≡ true
 judged-good n true m e = refl
 judged-good n false m e = absurd (false≢true e)
 

@@ -3,19 +3,20 @@
 use Prim.Native.Nat.{ℕ, _+_, _≤_, _<_}
 use mathlib.Core.Path.{_≡_, refl, ap}
 use mathlib.Core.Logic.{_↔_, ⊎-elim}
-use mathlib.Core.Bool.{Bool, true, false, cond, _&&_, false≢true}
+use mathlib.Core.Bool.{true, false, _&&_, false≢true}
 use mathlib.Core.List.{List}
 use native.Mathlib.Omega.{arith}
-use borrow.Author.Tests.{eqb-true, eq-eqb, leb-true, le-leb, ltb-true, lt-ltb}
-use lib.Dec.{leb, ltb}
+use borrow.Author.Tests.{eq-eqb, leb-true, le-leb}
+use lib.Dec.{leb}
 use lib.ListN.{length, getD}
 use Rattle.laws.specs.Bools.{cases, and-left, and-right}
 use Rattle.messages.specs.declared.Answer.{Answer}
 use Rattle.messages.specs.declared.Answer.the-variants.{Good, Refused}
 use Rattle.messages.specs.declared.Message.{Message}
 use Rattle.reader.specs.Read.{typeOf, answer}
-use Rattle.directory.specs.declared.Entry.the-variants.{Outside, Symbol}
-use Rattle.directory.specs.Directory.{goodLength, mostNumbers, entryAt, isSymbol}
+use Rattle.directory.specs.declared.Entry.the-variants.{Symbol}
+use Rattle.directory.specs.Directory.{DirectoryLength, goodLength, entryAt, isSymbol}
+use Rattle.directory.specs.DirectoryLaws.{length-means, symbol-is}
 use Rattle.symbol.specs.declared.Part.{Part}
 use Rattle.symbol.specs.Symbol.{stockAt, locateOf, stockOf, isGood, isNamed, unpadded, emptyPart, symbolPart}
 use Rattle.symbol.specs.Stocks.{stock-fits}
@@ -24,11 +25,10 @@ use Rattle.symbol.specs.Formed.{formed, stock-text}
 
 -- the directory's length is right, and the message is well formed, has a Stock field, and its locate is registered with that symbol
 pub record Named (d s : List ℕ) : Type 0 where
-  pub directory : (2 ≤ length d) × (length d ≤ 8192)
+  pub directory : DirectoryLength (length d)
   pub read : (m : Message) × (answer s ≡ Good m)
   pub stock : 1 ≤ stockAt (typeOf s)
-  pub locate : (1 ≤ locateOf s) × (locateOf s < length d)
-  pub registered : getD d (locateOf s) 0 ≡ stockOf s
+  pub registered : entryAt d (locateOf s) ≡ Symbol (stockOf s)
 
 -- the part p of the message s is its symbol: it starts where the Stock field starts, and of that field's 8 bytes, which lie inside the
 -- message, the part's are letters, at least one, and all others are spaces
@@ -39,31 +39,9 @@ pub record Stands (s : List ℕ) (p : Part) : Type 0 where
 
 -- ---- the tests
 
-entry-symbol : (d : List ℕ) (l v : ℕ) → isSymbol v (entryAt d l) ≡ true → (1 ≤ l) × (l < length d) × (getD d l 0 ≡ v)
-unfolding entryAt
-entry-symbol d l v e = go (leb 1 l) refl (ltb l (length d)) refl e
-  where
-    go : (a : Bool) → leb 1 l ≡ a → (b : Bool) → ltb l (length d) ≡ b → isSymbol v (cond (a && b) (Symbol (getD d l 0)) Outside) ≡ true
-        → (1 ≤ l) × (l < length d) × (getD d l 0 ≡ v)
-    go true p true q e = (leb-true 1 l p, ltb-true l (length d) q, eqb-true (getD d l 0) v e)
-    go true p false q e = absurd (false≢true e)
-    go false p b q e = absurd (false≢true e)
-
-symbol-entry : (d : List ℕ) (l v : ℕ) → 1 ≤ l → l < length d → getD d l 0 ≡ v → isSymbol v (entryAt d l) ≡ true
-unfolding entryAt
-symbol-entry d l v a b e = rw (le-leb 1 l a, lt-ltb l (length d) b) (eq-eqb (getD d l 0) v e)
-
 good-answer : (a : Answer) → isGood a ≡ true → (m : Message) × (a ≡ Good m)
 good-answer (Good m) e = (m, refl)
 good-answer (Refused r) e = absurd (false≢true e)
-
-sized : (n : ℕ) → goodLength n ≡ true → (2 ≤ n) × (n ≤ 8192)
-unfolding goodLength mostNumbers
-sized n e = (leb-true 2 n (and-left (leb 2 n) (leb n 8192) e), leb-true n 8192 (and-right (leb 2 n) (leb n 8192) e))
-
-size-is : (n : ℕ) → 2 ≤ n → n ≤ 8192 → goodLength n ≡ true
-unfolding goodLength mostNumbers
-size-is n l h = rw (le-leb 2 n l) (le-leb n 8192 h)
 
 is-named : (d s : List ℕ) → isNamed d s ≡ true → Named d s
 unfolding isNamed
@@ -73,24 +51,22 @@ is-named d s e =
     let last = isSymbol (stockOf s) (entryAt d (locateOf s)) in
     let p = and-right (goodLength (length d)) (good && (stocked && last)) e in
     let q = and-right good (stocked && last) p in
-    let r = entry-symbol d (locateOf s) (stockOf s) (and-right stocked last q) in
     record {
-      directory = sized (length d) (and-left (goodLength (length d)) (good && (stocked && last)) e);
+      directory = length-means (length d) .0 (and-left (goodLength (length d)) (good && (stocked && last)) e);
       read = good-answer (answer s) (and-left good (stocked && last) p);
       stock = leb-true 1 (stockAt (typeOf s)) (and-left stocked last q);
-      locate = (r .0, r .1);
-      registered = r .2;
+      registered = symbol-is (stockOf s) (entryAt d (locateOf s)) (and-right stocked last q);
     }
 
 named-is : (d s : List ℕ) → Named d s → isNamed d s ≡ true
 unfolding isNamed
 named-is d s n =
-    rw (size-is (length d) (n .directory .0) (n .directory .1), ap isGood (n .read .1), le-leb 1 (stockAt (typeOf s)) (n .stock))
-    (symbol-entry d (locateOf s) (stockOf s) (n .locate .0) (n .locate .1) (n .registered))
+    rw (length-means (length d) .1 (n .directory), ap isGood (n .read .1), le-leb 1 (stockAt (typeOf s)) (n .stock), n .registered)
+    (eq-eqb (stockOf s) (stockOf s) refl)
 
 -- the test that the definition makes says what 01 asks
-pub named : (d s : List ℕ) → isNamed d s ≡ true ↔ Named d s
-named d s = (is-named d s, named-is d s)
+pub named-means : (d s : List ℕ) → isNamed d s ≡ true ↔ Named d s
+named-means d s = (is-named d s, named-is d s)
 
 -- ---- the part
 
@@ -117,7 +93,7 @@ pub part-inside : (d s : List ℕ) → symbolPart d s .start + symbolPart d s .l
 part-inside d s = ⊎-elim given empty (cases (isNamed d s))
   where
     given : isNamed d s ≡ true → symbolPart d s .start + symbolPart d s .len ≤ length s
-    given e = rw (part-given d s e) (omega (arith, field-inside d s (named d s .0 e), unpadded-le 8 (stockOf s)))
+    given e = rw (part-given d s e) (omega (arith, field-inside d s (named-means d s .0 e), unpadded-le 8 (stockOf s)))
 
     empty : isNamed d s ≡ false → symbolPart d s .start + symbolPart d s .len ≤ length s
     empty e = rw (part-empty d s e) (omega arith)
@@ -133,7 +109,7 @@ module _ (d s : List ℕ) (bytes : (i : ℕ) → getD s i 0 < 256) where
   stands : Named d s → Stands s (symbolPart d s)
   stands n =
       let f = formed s (ap isGood (n .read .1)) in
-      rw (part-given d s (named d s .1 n))
+      rw (part-given d s (named-means d s .1 n))
       (record {
         start = refl;
         field = field-inside d s n;
@@ -141,10 +117,10 @@ module _ (d s : List ℕ) (bytes : (i : ℕ) → getD s i 0 < 256) where
       })
 
   none : (Named d s → ⊥) → symbolPart d s ≡ emptyPart
-  none h = ⊎-elim (λ e. absurd (h (named d s .0 e))) (part-empty d s) (cases (isNamed d s))
+  none h = ⊎-elim (λ e. absurd (h (named-means d s .0 e))) (part-empty d s) (cases (isNamed d s))
 
   some : 1 ≤ symbolPart d s .len → Named d s
-  some l = ⊎-elim (named d s .0) (λ e. let z = ap (λ (p : Part). p .len) (part-empty d s e) in absurd (omega arith)) (cases (isNamed d s))
+  some l = ⊎-elim (named-means d s .0) (λ e. let z = ap (λ (p : Part). p .len) (part-empty d s e) in absurd (omega arith)) (cases (isNamed d s))
 
   -- of any directory and any bytes, the part is what 01 says
   pub symbol-means : SymbolMeans d s (symbolPart d s)

@@ -10,7 +10,7 @@ use lib.Dec.{eqb, leb}
 use lib.ListN.{length, take, drop}
 use Rattle.laws.specs.Field.{field}
 use Rattle.layout.specs.Kind.{Kind, Cell}
-use Rattle.layout.specs.Kind.Kind.{number, time, shares, price4, price8, text, side, printable, code, alpha, reserved}
+use Rattle.layout.specs.Kind.Kind.{number, time, shares, price4, price8, texts, side, printable, code, alpha, reserved}
 use Rattle.layout.specs.Layout.{cellsOf}
 use Rattle.messages.specs.declared.Answer.{Answer}
 use Rattle.messages.specs.declared.Answer.the-variants.{Good, Refused}
@@ -19,7 +19,7 @@ use Rattle.directory.specs.Directory.{goodLength, entryAt, isSymbol}
 use Rattle.symbol.specs.declared.Part.{Part}
 
 abbrev pub isText : Kind → Bool
-isText text = true
+isText texts = true
 isText number = false
 isText time = false
 isText shares = false

@@ -75,7 +75,7 @@ fn is_registered(directory: &[u64], locate: Locate, symbol: u64) -> bool
 
 // Where in the message its unpadded symbol stands: the empty part unless the directory's length is right and the message is well
 // formed, has a Stock field, and its locate is registered with that symbol.
-pub fn place(directory: &[u64], message: &[u8]) -> Part
+pub fn part_of(directory: &[u64], message: &[u8]) -> Part
     ensures { λ r. ⌜ r ≡ symbolPart (now (directory .entry)) (now (message .entry)) ⌝ }
 {
     let good = directory::good_length(directory.len());
@@ -106,7 +106,7 @@ pub fn place(directory: &[u64], message: &[u8]) -> Part
 pub fn symbol<'d, 'm>(directory: &'d [u64], message: &'m [u8]) -> &'m [u8]
     ensures { λ r. ⌜ IsPart (message .entry) (symbolPart (now (directory .entry)) (now (message .entry))) r ⌝ }
 {
-    let part = place(directory, message);
+    let part = part_of(directory, message);
     let start = part.start;
     let end = start + part.len;
     &message[start..end]

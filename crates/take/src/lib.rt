@@ -1,20 +1,23 @@
-// E, C, X and D: shares are taken from an order, or all that remains is closed, or the message is refused with 10, 13, 8 or 11.
+// E, C, X and D: shares are taken from an order, or all that remains is closed, or the message is refused with 10, 13, 8 or 11. Who
+// searches for the order is not known here.
 ghost use mathlib.Core.Path.{_≡_};
-ghost use Prim.Native.Nat.{_+_, _≤_};
-ghost use Rattle.book.specs.Book.{find};
+ghost use Prim.Native.Nat.{_+_, _*_, _≤_, _<_};
+ghost use Rattle.book.specs.Finds.{Within};
 ghost use Rattle.book.specs.Shape.{Sized};
-ghost use Rattle.decide.specs.Decide.{closing, taking};
-ghost use Rattle.decide.specs.Stepped.{Stepped};
-ghost use Rattle.decide.specs.Stored.{seenIn, slotOf};
+ghost use Rattle.orders.specs.declared.Held.the-variants.{Sound};
+ghost use Rattle.decide.specs.Decide.{closing, leave, taking, takingFrom};
+ghost use Rattle.slots.specs.Stepped.{Stepped};
+ghost use Rattle.slots.specs.Stored.{heldAt, seenIn, slotOf};
 ghost use Rattle.take.specs.Taken.{takenBy};
 use book::Found;
 use decide::Step;
 use decide::figured;
 use decide::refuse;
 use kinds::Locate;
-use kinds::Reference;
-use orders::Held;
+use kinds::Slot;
 use orders::Order;
+use refusals::OVER;
+use slots::Concern;
 
 // E and C execute, X cancels.
 pub enum Taking {
@@ -33,32 +36,13 @@ fn taken(o: Order, n: u32, how: Taking) -> Order
     }
 }
 
-// E, C, X: n shares are taken from the order; one with nothing remaining is removed.
-pub fn take(
-    book: &mut [u64],
-    k: usize,
-    reference: Reference,
-    locate: Locate,
-    n: u32,
-    how: Taking,
-) -> Step
-    requires { ⌜ Sized (now book) k ⌝ }
-    ensures { λ r. ⌜ Stepped (now (book .entry)) k (slotOf (find (now (book .entry)) k (reference .0))) (taking (takenBy how) (locate .0) n (seenIn (now (book .entry)) k (find (now (book .entry)) k (reference .0)))) r (now (book .exit)) ⌝ }
+// n shares of the order that the slot holds; one with nothing remaining is removed.
+fn take_from(book: &mut [u64], k: usize, slot: Slot, o: Order, n: u32, how: Taking) -> Step
+    requires { ⌜ Sized (now book) k × (slot .0 < 64 * k) × (heldAt (now book) k (slot .0) ≡ Sound o) ⌝ }
+    ensures { λ r. ⌜ Stepped (now (book .entry)) k (slot .0) (takingFrom (takenBy how) n o) r (now (book .exit)) ⌝ }
 {
-    let found = search::find(book, k, reference);
-    let Found::At(slot) = found else {
-        return refuse(10);
-    };
-    let held = slots::held_at(book, k, slot);
-    let Held::Sound(o) = held else {
-        return refuse(13);
-    };
-    let own = o.locate;
-    if own.0 != locate.0 {
-        return refuse(8);
-    }
     if o.remaining() < n {
-        return refuse(11);
+        return refuse(OVER);
     }
     let left = taken(o, n, how);
     let remains = left.remaining();
@@ -71,25 +55,37 @@ pub fn take(
     Step::One(figures)
 }
 
-// D: all that remains of the order is closed, and it is removed.
-pub fn delete(book: &mut [u64], k: usize, reference: Reference, locate: Locate) -> Step
-    requires { ⌜ Sized (now book) k ⌝ }
-    ensures { λ r. ⌜ Stepped (now (book .entry)) k (slotOf (find (now (book .entry)) k (reference .0))) (closing (locate .0) (seenIn (now (book .entry)) k (find (now (book .entry)) k (reference .0)))) r (now (book .exit)) ⌝ }
+// All that remains of the order that the slot holds is closed, and it is removed.
+fn close(book: &mut [u64], k: usize, slot: Slot, o: Order) -> Step
+    requires { ⌜ Sized (now book) k × (slot .0 < 64 * k) × (heldAt (now book) k (slot .0) ≡ Sound o) ⌝ }
+    ensures { λ r. ⌜ Stepped (now (book .entry)) k (slot .0) (leave o) r (now (book .exit)) ⌝ }
 {
-    let found = search::find(book, k, reference);
-    let Found::At(slot) = found else {
-        return refuse(10);
-    };
-    let held = slots::held_at(book, k, slot);
-    let Held::Sound(o) = held else {
-        return refuse(13);
-    };
-    let its = o.locate;
-    if its.0 != locate.0 {
-        return refuse(8);
-    }
     let shares = o.remaining();
     let end = o.closed();
     book::clear_slot(book, k, slot);
     Step::One(figured(o, shares, end.remaining()))
+}
+
+// E, C, X: n shares are taken from the order in the slot that was found.
+pub fn take(book: &mut [u64], k: usize, found: Found, locate: Locate, n: u32, how: Taking) -> Step
+    requires { ⌜ Sized (now book) k × Within k found ⌝ }
+    ensures { λ r. ⌜ Stepped (now (book .entry)) k (slotOf found) (taking (takenBy how) (locate .0) n (seenIn (now (book .entry)) k found)) r (now (book .exit)) ⌝ }
+{
+    let concern = slots::concerned(book, k, found, locate);
+    match concern {
+        Concern::Refused(refusal) => Step::Refused(refusal),
+        Concern::Here(slot, o) => take_from(book, k, slot, o, n, how),
+    }
+}
+
+// D: the order in the slot that was found ends its life.
+pub fn delete(book: &mut [u64], k: usize, found: Found, locate: Locate) -> Step
+    requires { ⌜ Sized (now book) k × Within k found ⌝ }
+    ensures { λ r. ⌜ Stepped (now (book .entry)) k (slotOf found) (closing (locate .0) (seenIn (now (book .entry)) k found)) r (now (book .exit)) ⌝ }
+{
+    let concern = slots::concerned(book, k, found, locate);
+    match concern {
+        Concern::Refused(refusal) => Step::Refused(refusal),
+        Concern::Here(slot, o) => close(book, k, slot, o),
+    }
 }

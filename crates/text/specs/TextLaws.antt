@@ -91,17 +91,17 @@ unfolding fault
 fault-space w v e = ap fault (text-space w v e)
 
 -- v with k spaces behind it
-unfoldable pub padded : ℕ → ℕ → ℕ
-padded zero v = v
-padded (suc k) v = padded k v * 256 + 32
+unfoldable pub padded-text : ℕ → ℕ → ℕ
+padded-text zero v = v
+padded-text (suc k) v = padded-text k v * 256 + 32
 
-pub fault-padded : (k w v : ℕ) → textFault (w + k) (padded k v) ≡ textFault w v
-unfolding padded
+pub fault-padded : (k w v : ℕ) → textFault (w + k) (padded-text k v) ≡ textFault w v
+unfolding padded-text
 fault-padded zero w v = rw add-zero
 fault-padded (suc k) w v =
-    let front : (padded k v * 256 + 32) / 256 ≡ padded k v = omega arith in
+    let front : (padded-text k v * 256 + 32) / 256 ≡ padded-text k v = omega arith in
     rw (add-suc w k)
-    (fault-space (w + k) (padded k v * 256 + 32) (omega arith) ∙ ap (textFault (w + k)) front ∙ fault-padded k w v)
+    (fault-space (w + k) (padded-text k v * 256 + 32) (omega arith) ∙ ap (textFault (w + k)) front ∙ fault-padded k w v)
 
 pub fault-of-text : (w v : ℕ) → text w v ≡ true → textFault w v ≡ 0
 unfolding fault

@@ -1,18 +1,17 @@
 -- When each kind of field is at fault, as equations of numbers: what a test in the code says of a value says its fault.
 -- Assumes nothing.
-use mathlib.Core.Path.{_≡_, refl, sym, ap, _∙_}
+use mathlib.Core.Path.{_≡_, refl, sym, ap}
 use mathlib.Core.Bool.{Bool, true, false, cond, _||_}
 use Prim.Native.Nat.{ℕ, _+_, _*_, _%_, _≤_, _<_}
 use native.Mathlib.Omega.{arith}
-use borrow.Author.Tests.{lt-ltb, le-ltb, le-leb, lt-leb, eq-eqb, ne-eqb, eqb-false}
-use lib.Dec.{eqb, leb, ltb}
+use borrow.Author.Tests.{lt-ltb, le-ltb, le-leb, eq-eqb, ne-eqb, eqb-false}
+use lib.Dec.{eqb, leb}
 use Rattle.laws.specs.Bools.{fault}
 use Rattle.kinds.specs.Admission.{maximum, admission}
 use Rattle.kinds.specs.declared.Price.{Price}
-use Rattle.kinds.specs.declared.Admission.{Admission}
 use Rattle.kinds.specs.declared.Admission.the-variants.{Admitted, TooHigh}
-use Rattle.wellformed.specs.WellFormed.{goodTime, goodShares, goodPrice, goodSide, goodPrintable}
-use Rattle.wellformed.specs.Weight.{sideHeld, priceHeld}
+use Rattle.wellformed.specs.WellFormed.{goodTime, goodShares, goodPrice, goodPrintable}
+use Rattle.wellformed.specs.FaultSum.{priceHeld}
 
 pub time-early : (v : ℕ) → v < 86400000000000 → fault (goodTime v) ≡ 0
 unfolding goodTime fault
@@ -48,18 +47,6 @@ price-too-high v = go (leb v maximum)
     go false e = (refl, refl)
 
 -- a code that is one of two letters: the test that the code makes of both at once says it
-pub side-is : (v : ℕ) → v ≡ 66 + 17 * (v % 2) → fault (goodSide v) ≡ 0
-unfolding goodSide fault
-side-is v e = go (eqb v 66) refl
-  where
-    go : (b : Bool) → eqb v 66 ≡ b → fault (b || eqb v 83) ≡ 0
-    go true p = refl
-    go false p = rw (eq-eqb v 83 (omega (arith, eqb-false v 66 p)))
-
-pub side-is-not : (v : ℕ) → (v ≡ 66 + 17 * (v % 2) → ⊥) → fault (goodSide v) ≡ 1
-unfolding goodSide fault
-side-is-not v n = rw (ne-eqb v 66 (λ e. n (omega arith)), ne-eqb v 83 (λ e. n (omega arith)))
-
 pub printable-is : (v : ℕ) → v ≡ 78 + 11 * (v % 2) → fault (goodPrintable v) ≡ 0
 unfolding goodPrintable fault
 printable-is v e = go (eqb v 89) refl
@@ -71,12 +58,3 @@ printable-is v e = go (eqb v 89) refl
 pub printable-is-not : (v : ℕ) → (v ≡ 78 + 11 * (v % 2) → ⊥) → fault (goodPrintable v) ≡ 1
 unfolding goodPrintable fault
 printable-is-not v n = rw (ne-eqb v 89 (λ e. n (omega arith)), ne-eqb v 78 (λ e. n (omega arith)))
-
--- what the code holds of a side
-pub side-buy : (v : ℕ) → v ≡ 66 → sideHeld v ≡ 66
-unfolding sideHeld
-side-buy v e = rw (eq-eqb v 66 e)
-
-pub side-sell : (v : ℕ) → (v ≡ 66 → ⊥) → sideHeld v ≡ 83
-unfolding sideHeld
-side-sell v n = rw (ne-eqb v 66 n)

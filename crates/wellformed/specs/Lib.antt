@@ -1,4 +1,4 @@
 pub mod Faults
-pub mod Weight
-pub mod WeightLaws
+pub mod FaultSum
+pub mod FaultSumLaws
 pub mod WellFormed

@@ -6,10 +6,12 @@ use mathlib.Core.Bool.{Bool, true, false, cond, not, _&&_, _||_}
 use mathlib.Core.List.{List, [], _∷_}
 use lib.Dec.{eqb, leb, ltb}
 use Rattle.laws.specs.Field.{field}
+use Rattle.refusals.specs.Refusals.{FIELD, PRICE, SHARES, TIME}
 use Rattle.kinds.specs.Admission.{maximum}
+use Rattle.kinds.specs.Sides.{goodSide}
 use Rattle.text.specs.Text.{text}
 use Rattle.layout.specs.Kind.{Kind, Cell}
-use Rattle.layout.specs.Kind.Kind.{number, time, shares, price4, price8, text as texts, side, printable, code, alpha, reserved}
+use Rattle.layout.specs.Kind.Kind.{number, time, shares, price4, price8, texts, side, printable, code, alpha, reserved}
 
 -- below a day of nanoseconds
 unfoldable pub goodTime : ℕ → Bool
@@ -20,10 +22,6 @@ goodShares v = leb 1 v
 
 unfoldable pub goodPrice : ℕ → Bool
 goodPrice v = leb v maximum
-
--- B or S
-unfoldable pub goodSide : ℕ → Bool
-goodSide v = eqb v 66 || eqb v 83
 
 -- Y or N
 unfoldable pub goodPrintable : ℕ → Bool
@@ -46,13 +44,13 @@ good reserved w v = true
 -- the refusal that a field of this kind earns where it is not well formed
 abbrev pub earns : Kind → ℕ
 earns number = 0
-earns time = 3
-earns shares = 6
-earns price4 = 5
+earns time = TIME
+earns shares = SHARES
+earns price4 = PRICE
 earns price8 = 0
-earns texts = 4
-earns side = 4
-earns printable = 4
+earns texts = FIELD
+earns side = FIELD
+earns printable = FIELD
 earns code = 0
 earns alpha = 0
 earns reserved = 0
@@ -72,7 +70,7 @@ faulty n s (c ∷ cs) = wrong n s c || faulty n s cs
 
 -- the refusal of a message with these fields, in the order of the checks; 0 where it is well formed
 unfoldable pub refusal : List ℕ → List Cell → ℕ
-refusal s cs = cond (faulty 3 s cs) 3 (cond (faulty 4 s cs) 4 (cond (faulty 5 s cs) 5 (cond (faulty 6 s cs) 6 0)))
+refusal s cs = cond (faulty TIME s cs) TIME (cond (faulty FIELD s cs) FIELD (cond (faulty PRICE s cs) PRICE (cond (faulty SHARES s cs) SHARES 0)))
 
 -- the numbers of the fields, in their order
 abbrev pub values : List ℕ → List Cell → List ℕ

@@ -1,6 +1,6 @@
 -- `book::bit_of` meets its contract: the shift is a division by 2 ^ i. Assumes nothing.
-use Rattle.laws.specs.Bit.{bit}
 use borrow.Author.Needs.{needs}
+use Rattle.laws.specs.Definitions.{bit}
 use Rattle.book.proofs.bit_of.Statement.{statement}
 use Rattle.book.proofs.bit_of.Tie as tie
 

@@ -3,7 +3,7 @@
 use Prim.Native.Nat.{_-_}
 use borrow.Author.Needs.{needs}
 use native.Mathlib.Omega.{arith}
-use Rattle.book.specs.Words.{Halved, whole, half, zero-at, no-zero}
+use Rattle.book.specs.Words.{Halved, word-whole, half, zero-at, no-zero}
 use Rattle.book.proofs.free_in.Statement.{statement}
 use Rattle.book.proofs.free_in.Tie as tie
 
@@ -14,7 +14,7 @@ abbrev μ-loop : tie.MeasureT-loop
 μ-loop w rest₀ i₀ rest i = 64 - i
 
 loop-holds : tie.Need-loop-holds Inv-loop μ-loop
-loop-holds c = whole _
+loop-holds c = word-whole _
 
 returns : tie.Need-returns Inv-loop μ-loop
 returns c = zero-at _ _ _ (c .before .before .loop .inv) (c .before .loop-test .taken) (omega (arith, c .if1 .taken))

@@ -4,8 +4,9 @@ use mathlib.Core.Logic.{⊎-elim}
 use native.Mathlib.Nat.{lt-of-le-of-lt}
 use native.Mathlib.Omega.{arith}
 use Prim.Native.Nat.{ℕ, _*_, _^_, _≤_}
-use Rattle.laws.specs.Bit.{bit, bit-cases, clearBit, pow-le}
+use Rattle.laws.specs.Bit.{bit-cases, pow-le}
 use borrow.Author.Needs.{needs}
+use Rattle.laws.specs.Definitions.{bit, clearBit}
 use Rattle.book.proofs.without_bit.Statement.{statement}
 use Rattle.book.proofs.without_bit.Tie as tie
 

@@ -1,8 +1,7 @@
 -- The loop's invariant: the first i bytes are those from `from` on, and the others are as they were. Assumes nothing.
-use borrow.Author.Needs.{needs}
 use mathlib.Core.Path.{_≡_, refl, ap, _∙_}
 use native.Mathlib.Omega.{arith}
-use Prim.Native.Nat.{_+_, _-_, _≤_}
+use Prim.Native.Nat.{_-_, _≤_}
 use lib.ListN.{length, length-set}
 use Rattle.carry.proofs.Laws.{moved, one-more}
 use Rattle.carry.proofs.forward.Statement.{statement}

@@ -3,9 +3,8 @@ use native.Mathlib.Omega.{arith}
 use Prim.Native.Nat.{_-_, _*_}
 use borrow.Author.Needs.{needs}
 use lib.Count.{ones-le}
-use lib.ListN.{getD}
-use mathlib.Core.Path.{_≡_, ap, _∙_}
-use Rattle.laws.specs.Sum.{sumTo}
+use mathlib.Core.Path.{ap, _∙_}
+use Rattle.laws.specs.Definitions.{sumTo}
 use Rattle.book.specs.Book.{live}
 use Rattle.census.specs.Census.{liveCount}
 use Rattle.census.proofs.Laws.{Below, start, more, few}

@@ -1,4 +1,4 @@
--- What is weighed of the byte that was read is the field's. Assumes nothing.
+-- The fault of the byte that was read is the field's. Assumes nothing.
 use borrow.Author.Needs.{needs}
 use native.Mathlib.Omega.{arith}
 use mathlib.Core.Path.{_≡_}
@@ -12,7 +12,7 @@ use Rattle.checked.proofs.printable_at.Tie as tie
 returns : tie.Need-returns
 returns c =
     let a = c .before .before .before .args in
-    let weight : c .printable-weight .result ≡ 16 * fault (goodPrintable (field (a .s .now) (a .at) 1)) = cc in
+    let faults : c .printable-faults .result ≡ 16 * fault (goodPrintable (field (a .s .now) (a .at) 1)) = cc in
     omega arith
 
 pub printable-at-spec : {M : Type 1} → statement M

@@ -1,8 +1,8 @@
 -- Each way through the checks is the verdict that its findings lead to. Assumes nothing.
 use borrow.Author.Needs.{needs}
-use mathlib.Core.Path.{_≡_, refl, sym, _∙_}
+use mathlib.Core.Path.{refl, sym, _∙_}
 use native.Mathlib.Omega.{arith}
-use Rattle.directory.specs.DirectoryLaws.{inside}
+use Rattle.directory.specs.DirectoryLaws.{entry-means}
 use Rattle.enroll.proofs.Laws.{no-entry, new, another, again}
 use Rattle.enroll.proofs.enroll.Statement.{statement}
 use Rattle.enroll.proofs.enroll.Tie as tie
@@ -16,14 +16,14 @@ register-requires : tie.Need-register-requires
 register-requires c κs =
     let a = c .before .before .before .before .before .before .before .before .args in
     let t = c .before .before .before .entry .given in
-    inside (a .directory .now) (a .locate .0) (t .0 .0) (sym (c .before .before .before .before .before .entry-at .ensures) ∙ t .1) .1
+    entry-means (a .directory .now) (a .locate .0) (t .0 .0) .0 (sym (c .before .before .before .before .before .entry-at .ensures) ∙ t .1) .inside
 
 returns-2 : tie.Need-returns-2
 returns-2 c =
     let a = c .before .before .before .before .before .before .before .before .before .before .before .args in
     let t = c .before .before .before .before .before .before .entry .given in
     let p = sym (c .before .before .before .before .before .before .before .before .entry-at .ensures) ∙ t .1 in
-    new (a .directory .now) (a .locate .0) (a .symbol) _ (t .0 .0) _ p (omega (arith, c .before .before .before .before .if1 .taken)) refl (c .before .before .register .ensures)
+    new (a .directory .now) (a .locate .0) (a .symbol) _ (t .0 .0) p _ (omega (arith, c .before .before .before .before .if1 .taken)) refl (c .before .before .register .ensures)
 
 returns-3 : tie.Need-returns-3
 returns-3 c =

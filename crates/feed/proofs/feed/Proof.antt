@@ -4,8 +4,8 @@ use mathlib.Core.Path.{_≡_, refl, sym, ap, _∙_}
 use native.Mathlib.Omega.{arith}
 use borrow.Author.Needs.{needs}
 use lib.ListN.{length}
-use Rattle.blocks.specs.BlockLaws.{Found, found, missing}
-use Rattle.feed.specs.Feed.{Leaves}
+use Rattle.blocks.specs.BlockLaws.{FoundBlock, found, missing}
+use Rattle.feed.specs.Feed.{FeedLeaves}
 use Rattle.feed.proofs.Loop.{Going, start, full, part, goes}
 use Rattle.feed.proofs.feed.Statement.{statement}
 use Rattle.feed.proofs.feed.Tie as tie
@@ -25,7 +25,7 @@ loop-holds c =
 
 -- where the block stands that a turn takes
 there : (c : tie.After-known-told Inv-loop μ-loop)
-    → Found (c .before .before .before .before .before .before .before .before .before .before .args .input .now) (c .before .before .before .before .before .loop .fed .at) (c .before .from .given .0 .0) (c .before .from .given .0 .1 .0)
+    → FoundBlock (c .before .before .before .before .before .before .before .before .before .before .args .input .now) (c .before .before .before .before .before .loop .fed .at) (c .before .from .given .0 .0) (c .before .from .given .0 .1 .0)
 there c = found _ _ _ _ (sym (c .before .before .before .block-at .ensures) ∙ c .before .from .given .1)
 
 sub-if1 : tie.Need-sub-if1 Inv-loop μ-loop
@@ -68,7 +68,7 @@ part-message-end c = let f = there c in omega arith
 loop-less : tie.Need-loop-less Inv-loop μ-loop
 loop-less c =
     let f = there (c .before .before .before .before .before .before .before .before .before .before .before) in
-    let e = ap (λ (x : Leaves). x .fed .at) (c .before .before .before .before .before .before .message .ensures) in
+    let e = ap (λ (x : FeedLeaves). x .fed .at) (c .before .before .before .before .before .before .message .ensures) in
     omega arith
 
 loop-again : tie.Need-loop-again Inv-loop μ-loop

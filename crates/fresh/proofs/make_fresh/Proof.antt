@@ -1,7 +1,7 @@
 -- Each way is what the tests of the two shapes decide. Assumes nothing.
 use borrow.Author.Needs.{needs}
 use borrow.Author.Tests.{not-true, not-false}
-use mathlib.Core.Path.{_≡_, sym, _∙_}
+use mathlib.Core.Path.{sym, _∙_}
 use native.Mathlib.Omega.{arith}
 use Rattle.fresh.specs.FreshLaws.{bad-directory, bad-book, good-both, comes-refused, comes-fresh}
 use Rattle.fresh.proofs.make_fresh.Statement.{statement}
@@ -15,7 +15,7 @@ returns c =
 returns-2 : tie.Need-returns-2
 returns-2 c =
     let a = c .before .before .before .before .before .before .before .args in
-    comes-refused (a .directory .now) (a .book .now) (bad-book _ _ (sym (c .before .before .words-of .ensures .0) ∙ c .before .if2 .taken)) (c .refuse2 .ensures)
+    comes-refused (a .directory .now) (a .book .now) (bad-book _ _ (sym (c .before .before .words-of .ensures) ∙ c .before .if2 .taken)) (c .refuse2 .ensures)
 
 returns-3 : tie.Need-returns-3
 returns-3 c =

@@ -1,11 +1,10 @@
 -- The loop's invariant: the first i numbers are 0, and the others are as they were. Assumes nothing.
 use borrow.Author.Fill.{fill-none, fill-more}
-use borrow.Author.Needs.{needs}
 use mathlib.Core.List.{_++_, append-nil}
-use mathlib.Core.Path.{_≡_, sym, ap, _∙_}
+use mathlib.Core.Path.{_≡_, _∙_}
 use native.Mathlib.Omega.{arith}
 use Prim.Native.Nat.{_+_, _-_, _≤_}
-use lib.ListN.{length, replicate, drop, set, length-set}
+use lib.ListN.{length, replicate, drop, length-set}
 use lib.Seq.{drop-length}
 use Rattle.fresh.proofs.zero.Statement.{statement}
 use Rattle.fresh.proofs.zero.Tie as tie

@@ -1,4 +1,4 @@
--- The record is that of the place's side and locate, and it is appended. Assumes nothing.
+-- The record is that of the rung's side and locate, and it is appended. Assumes nothing.
 use borrow.Author.Needs.{needs}
 use mathlib.Core.Path.{sym, ap, _∙_}
 use lib.ListN.{length}

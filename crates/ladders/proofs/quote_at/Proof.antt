@@ -1,4 +1,4 @@
--- What a side is asked by its letter is the place's question. Assumes nothing.
+-- What a side is asked by its letter is the rung's question. Assumes nothing.
 use borrow.Author.Needs.{needs}
 use mathlib.Core.Path.{refl}
 use Rattle.ladders.proofs.Laws.{asks}

@@ -1,8 +1,8 @@
 -- What is written are the numbers of what apply leaves. Assumes nothing.
 use borrow.Author.Needs.{needs}
-use mathlib.Core.Path.{_≡_, ap, _∙_}
-use Rattle.apply.specs.Apply.{After}
-use Rattle.outcomes.specs.Outcomes.{numberOf, rowOf, orderRow}
+use mathlib.Core.Path.{ap, _∙_}
+use Rattle.apply.specs.Apply.{After, numberOf}
+use Rattle.outcomes.specs.Outcomes.{rowOf, orderRow}
 use Rattle.ladlemoss.proofs.ladlemoss_apply.Statement.{statement}
 use Rattle.ladlemoss.proofs.ladlemoss_apply.Tie as tie
 

@@ -1,6 +1,6 @@
 -- The number is that of what making the tables fresh came to. Assumes nothing.
 use borrow.Author.Needs.{needs}
-use mathlib.Core.Path.{_≡_, sym, ap, _∙_}
+use mathlib.Core.Path.{sym, ap, _∙_}
 use Rattle.fresh.specs.Fresh.{madeNumber}
 use Rattle.ladlemoss.proofs.ladlemoss_fresh.Statement.{statement}
 use Rattle.ladlemoss.proofs.ladlemoss_fresh.Tie as tie

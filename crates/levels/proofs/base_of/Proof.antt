@@ -1,4 +1,4 @@
--- The base is asked for only where the steps begin below 2^32. Assumes nothing.
+-- The base is asked for only where the ticks begin below 2^32. Assumes nothing.
 use borrow.Author.Needs.{needs}
 use native.Mathlib.Omega.{arith}
 use Rattle.levels.specs.Glances.{Based}
@@ -11,7 +11,7 @@ returns c = λ l. absurd (omega (arith, c .if1 .taken))
 
 returns-2 : tie.Need-returns-2
 unfolding Based
-returns-2 c = λ l. omega (arith, c .before .side-byte .ensures .0)
+returns-2 c = λ l. omega (arith, c .before .byte .ensures .0)
 
 pub base-of-spec : {M : Type 1} → statement M
 base-of-spec =

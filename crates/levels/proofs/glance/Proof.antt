@@ -4,7 +4,7 @@ use mathlib.Core.Path.{ap, _∙_}
 use denote.Ref.{now}
 use Rattle.book.specs.Book.{numberAt}
 use Rattle.orders.specs.Order.{held}
-use Rattle.decide.specs.Stored.{heldAt}
+use Rattle.slots.specs.Stored.{heldAt}
 use Rattle.levels.specs.Glances.{glanced}
 use Rattle.levels.proofs.glance.Statement.{statement}
 use Rattle.levels.proofs.glance.Tie as tie

@@ -11,7 +11,7 @@ returns c = rw (lt-ltb _ _ (c .if1 .taken))
 returns-2 : tie.Need-returns-2
 returns-2 c =
     let s = c .before .before .before .before in
-    rw (le-ltb (s .args .steps) (s .args .best .steps) (c .before .before .if1 .left), eq-eqb (s .args .steps) (s .args .best .steps) (omega (arith, c .before .before .if1 .left)))
+    rw (le-ltb (s .args .ticks) (s .args .best .ticks) (c .before .before .if1 .left), eq-eqb (s .args .ticks) (s .args .best .ticks) (omega (arith, c .before .before .if1 .left)))
 
 pub join-spec : {M : Type 1} → statement M
 join-spec = tie.close (tie.spec returns (λ c. search needs) (λ c. search needs) returns-2)

@@ -1,4 +1,4 @@
--- The lesser of three numbers without the first step. Assumes nothing.
+-- The lesser of three numbers without the first tick. Assumes nothing.
 use borrow.Author.Needs.{needs}
 use mathlib.Core.Path.{_≡_, refl}
 use Prim.Native.Nat.{_+_, min}

@@ -5,7 +5,7 @@ use borrow.Author.Needs.{needs}
 use mathlib.Core.Path.{_≡_, sym, _∙_}
 use Rattle.levels.specs.declared.Pass.the-variants as pass
 use Rattle.levels.specs.Visits.{visited}
-use Rattle.levels.specs.VisitLaws.{begins, unsound-ends, whole}
+use Rattle.levels.specs.VisitLaws.{visit-none, unsound-ends, visit-all}
 use Rattle.levels.proofs.scan.Statement.{statement}
 use Rattle.levels.proofs.scan.Tie as tie
 
@@ -16,7 +16,7 @@ abbrev μ-loop : tie.MeasureT-loop
 μ-loop book k w best₀ j₀ best j = k - j
 
 loop-holds : tie.Need-loop-holds Inv-loop μ-loop
-loop-holds c = (search needs, begins _ _ _)
+loop-holds c = (search needs, visit-none _ _ _)
 
 scan-word-requires : tie.Need-scan-word-requires Inv-loop μ-loop
 scan-word-requires c κs = (c .before .before .before .pre, c .loop-test .taken, c .before .loop .inv .1)
@@ -30,7 +30,7 @@ loop-again : tie.Need-loop-again Inv-loop μ-loop
 loop-again c = (search needs, sym (c .before .before .before .scan-word .ensures) ∙ c .before .pass .given .1)
 
 returns-2 : tie.Need-returns-2 Inv-loop μ-loop
-returns-2 c = whole _ _ _ _ _ (c .before .loop .inv .0) (c .loop-test .left) (c .before .loop .inv .1)
+returns-2 c = visit-all _ _ _ _ _ (c .before .loop .inv .0) (c .loop-test .left) (c .before .loop .inv .1)
 
 pub scan-spec : {M : Type 1} → statement M
 scan-spec =

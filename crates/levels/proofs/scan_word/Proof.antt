@@ -14,7 +14,7 @@ use Rattle.levels.proofs.scan_word.Statement.{statement}
 use Rattle.levels.proofs.scan_word.Tie as tie
 
 abbrev Inv-loop : tie.InvT-loop
-Inv-loop book k j w base now₀ room₀ m₀ now room m = sweep.Sweep w book k j now m × (room ≡ roomOf w (now .steps))
+Inv-loop book k j w base now₀ room₀ m₀ now room m = sweep.Sweep w book k j now m × (room ≡ roomOf w (now .ticks))
 
 abbrev μ-loop : tie.MeasureT-loop
 μ-loop book k j w base now₀ room₀ m₀ now room m = m
@@ -69,12 +69,12 @@ loop-again c =
     ⊎-elim
     (λ v. (
       sweep.sweep-more _ _ _ _ _ _ (i .0) t _ (other-seen _ _ _ (sym g ∙ v .1 .given .1) ∙ ap pass.Seen (sym (v .2))),
-      v .3 ∙ i .1 ∙ ap (λ (x : Best). roomOf w (x .steps)) (sym (v .2)),
+      v .3 ∙ i .1 ∙ ap (λ (x : Best). roomOf w (x .ticks)) (sym (v .2)),
     ))
     (λ v. (
       sweep.sweep-more _ _ _ _ _ _ (i .0) t _
           (stands-seen _ _ _ _ _ (sym g ∙ v .1 .given .1) .0 ∙ ap pass.Seen (sym (v .5 ∙ v .3 .ensures))),
-      v .6 ∙ v .4 .ensures ∙ ap (λ (x : Best). roomOf w (x .steps)) (sym (v .5)),
+      v .6 ∙ v .4 .ensures ∙ ap (λ (x : Best). roomOf w (x .ticks)) (sym (v .5)),
     ))
     (c .match .came)
 

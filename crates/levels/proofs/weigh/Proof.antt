@@ -30,7 +30,7 @@ start c = c .before .before .before .before .before .before .before
 -- past the tests
 weighed : (c : tie.After-wrapping-sub-u64)
     → Weighed (start c .args .w) (start c .args .n1) (start c .args .n2) (start c .args .n3) (start c .args .base)
-    (c .wrapping-sub-u64 .result) (c .before .steps-to .result)
+    (c .wrapping-sub-u64 .result) (c .before .ticks-to .result)
 unfolding maximum
 weighed c =
     let s = start c in
@@ -50,7 +50,7 @@ weighed c =
       based = s .pre .0;
       small = s .fits .base .fits;
       fits = c .wrapping-sub-u64 .ok;
-      away = c .before .steps-to .ensures .0;
+      away = c .before .ticks-to .ensures .0;
       wraps = c .wrapping-sub-u64 .ensures;
     }
 

@@ -4,12 +4,12 @@ use mathlib.Core.List.{List}
 use mathlib.Core.Path.{_≡_, sym, ap, _∙_}
 use Prim.Native.Nat.{ℕ}
 use Rattle.messages.specs.declared.Message.{Message}
-use Rattle.numbers.specs.Shown.{shown}
+use Rattle.numbers.specs.Shown.{messageRow}
 use Rattle.numbers.proofs.message.Statement.{statement}
 use Rattle.numbers.proofs.message.Tie as tie
 
-arm : {m n : Message} {out : List ℕ} → m ≡ n → out ≡ shown n → out ≡ shown m
-arm e f = f ∙ ap shown (sym e)
+arm : {m n : Message} {out : List ℕ} → m ≡ n → out ≡ messageRow n → out ≡ messageRow m
+arm e f = f ∙ ap messageRow (sym e)
 
 pub message-spec : {M : Type 1} → statement M
 message-spec =

@@ -1,7 +1,8 @@
 -- Each case of the outcome is written as the definition shows it. Assumes nothing.
 use borrow.Author.Needs.{needs}
-use mathlib.Core.Path.{_≡_, refl, sym, ap, _∙_}
-use Rattle.outcomes.specs.Outcomes.{numberOf, rowOf, orderRow}
+use mathlib.Core.Path.{sym, ap, _∙_}
+use Rattle.apply.specs.Apply.{numberOf}
+use Rattle.outcomes.specs.Outcomes.{rowOf, orderRow}
 use Rattle.outcomes.proofs.write.Statement.{statement}
 use Rattle.outcomes.proofs.write.Tie as tie
 

@@ -1,6 +1,6 @@
 -- Each way through the checks is the verdict that its findings lead to. Assumes nothing.
 use borrow.Author.Needs.{needs}
-use mathlib.Core.Path.{_≡_, sym, ap, _∙_}
+use mathlib.Core.Path.{sym, ap, _∙_}
 use Rattle.book.specs.Finds.{free-slot}
 use Rattle.decide.specs.declared.Step.the-variants.{One}
 use Rattle.decide.specs.Figured.{figuresOf}
@@ -41,7 +41,7 @@ returns-4 c =
     let t = c .before .before .before .before .before .before .before .before .before .entry .given in
     let p = sym (c .before .before .before .before .before .before .before .before .before .before .before .entry-at .ensures) ∙ t .1 in
     let f = c .before .enum-told2 .given in
-    live d b (a .k) (a .symbol) (a .o) (c .refuse4 .result) (t .0 .0) (f .0 .0) p (c .before .before .before .before .before .before .before .if1 .left) (c .before .before .before .before .before .before .if2 .left)
+    live d b (a .k) (a .symbol) (a .o) (c .refuse4 .result) (t .0 .0) p (c .before .before .before .before .before .before .before .if1 .left) (c .before .before .before .before .before .before .if2 .left) (f .0 .0)
     (sym (c .before .before .before .find .ensures) ∙ f .1) (c .refuse4 .ensures)
 
 returns-5 : tie.Need-returns-5
@@ -68,7 +68,7 @@ returns-6 c =
     let t = c .before .before .before .before .before .before .before .before .before .before .before .before .before .before .before .before .before .before .before .entry .given in
     let p = sym (c .before .before .before .before .before .before .before .before .before .before .before .before .before .before .before .before .before .before .before .before .before .entry-at .ensures) ∙ t .1 in
     let f = c .before .before .before .before .before .before .before .free .given in
-    enters-at d b (a .k) (a .symbol) (a .o) _ (t .0 .0) (f .0 .0) _ p (c .before .before .before .before .before .before .before .before .before .before .before .before .before .before .before .before .before .if1 .left) (c .before .before .before .before .before .before .before .before .before .before .before .before .before .before .before .before .if2 .left)
+    enters-at d b (a .k) (a .symbol) (a .o) _ (t .0 .0) p (c .before .before .before .before .before .before .before .before .before .before .before .before .before .before .before .before .before .if1 .left) (c .before .before .before .before .before .before .before .before .before .before .before .before .before .before .before .before .if2 .left) (f .0 .0) _
     (sym (c .before .before .before .before .before .before .before .before .before .before .before .before .before .find .ensures) ∙ c .before .before .before .before .before .before .before .before .before .before .before .enum-told3 .given .1) (sym (c .before .before .before .before .before .before .before .before .before .lowest-free .ensures) ∙ f .1)
     (ap One (c .figured .ensures ∙ ap (figuresOf (a .o) (a .o .added)) (c .before .remaining .ensures))) (c .before .before .before .before .put-order .ensures)
 

@@ -1,7 +1,7 @@
 -- Each arm is asked for bytes of its row's length, and its answer is its row's; what is no arm has no length. Assumes nothing.
 use borrow.Author.Needs.{needs}
 use native.Mathlib.Omega.{arith}
-use mathlib.Core.Path.{refl, sym}
+use mathlib.Core.Path.{refl}
 use Rattle.layout.specs.Layout.{lengthOf}
 use Rattle.reader.proofs.Arms.{long, right, no-type}
 use Rattle.reader.proofs.judged.Statement.{statement}

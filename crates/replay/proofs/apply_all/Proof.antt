@@ -1,6 +1,6 @@
 -- The loop keeps the lengths of what is lent, and the turns that are left are its measure. Assumes nothing.
 use borrow.Author.Needs.{needs}
-use mathlib.Core.Path.{_≡_, refl, _∙_}
+use mathlib.Core.Path.{_≡_}
 use native.Mathlib.Omega.{arith}
 use lib.ListN.{length}
 use Rattle.replay.proofs.apply_all.Statement.{statement}

@@ -7,10 +7,10 @@ use Rattle.replay.proofs.write_levels.Statement.{statement}
 use Rattle.replay.proofs.write_levels.Tie as tie
 
 abbrev Inv-loop : tie.InvT-loop
-Inv-loop book output₀ end place₀ is-written₀ turns₀ output place is-written turns = length output ≡ length output₀
+Inv-loop book output₀ end rung₀ is-written₀ turns₀ output rung is-written turns = length output ≡ length output₀
 
 abbrev μ-loop : tie.MeasureT-loop
-μ-loop book output₀ end place₀ is-written₀ turns₀ output place is-written turns = turns
+μ-loop book output₀ end rung₀ is-written₀ turns₀ output rung is-written turns = turns
 
 pub write-levels-spec : {M : Type 1} → statement M
 write-levels-spec =

@@ -7,7 +7,7 @@ use native.Mathlib.Omega.{arith}
 use borrow.Author.Needs.{needs}
 use borrow.Author.Count.{below-none}
 use Rattle.book.specs.Eights.{eight-more}
-use Rattle.book.specs.Words.{inWord, first-none}
+use Rattle.book.specs.Words.{inWord, word-none}
 use Rattle.search.proofs.find_dense.Statement.{statement}
 use Rattle.search.proofs.find_dense.Tie as tie
 
@@ -55,7 +55,7 @@ loop-again c = (
 )
 
 returns-2 : tie.Need-returns-2 Inv-loop μ-loop
-returns-2 c = first-none _ (λ i l. c .before .loop .inv .2 i (omega arith))
+returns-2 c = word-none _ (λ i l. c .before .loop .inv .2 i (omega arith))
 
 pub find-dense-spec : {M : Type 1} → statement M
 find-dense-spec =

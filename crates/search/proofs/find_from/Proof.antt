@@ -8,7 +8,7 @@ use native.Mathlib.Omega.{arith}
 use borrow.Author.Needs.{needs}
 use borrow.Author.Count.{below-more}
 use Rattle.laws.specs.Bit.{bit-cases}
-use Rattle.book.specs.Words.{inWord, in-dead, in-other, in-yes, first-at, first-none}
+use Rattle.book.specs.Words.{inWord, in-dead, in-other, in-yes, first-at, word-none}
 use Rattle.search.proofs.find_from.Statement.{statement}
 use Rattle.search.proofs.find_from.Tie as tie
 
@@ -73,7 +73,7 @@ loop-again c = (
 )
 
 returns-2 : tie.Need-returns-2 Inv-loop μ-loop
-returns-2 c = first-none _ (λ i l. c .before .loop .inv .1 i (omega arith))
+returns-2 c = word-none _ (λ i l. c .before .loop .inv .1 i (omega arith))
 
 pub find-from-spec : {M : Type 1} → statement M
 find-from-spec =

@@ -22,7 +22,7 @@ shared-slice-read-m : tie.Need-shared-slice-read-m Inv-loop μ-loop
 shared-slice-read-m c = search needs
 
 loop-holds : tie.Need-loop-holds Inv-loop μ-loop
-loop-holds c = scan.start _ _ (c .shared-slice-known .given (c .before .args .j) .fits) (λ i l e. in-dead _ _ _ _ i l e)
+loop-holds c = scan.scan-start _ _ (c .shared-slice-known .given (c .before .args .j) .fits) (λ i l e. in-dead _ _ _ _ i l e)
 
 cast-t : tie.Need-cast-t Inv-loop μ-loop
 cast-t c = omega (arith, trailing-le 64 (c .before .loop .m))
@@ -62,7 +62,7 @@ loop-again c =
     scan.step (c .before .before .before .loop .inv) (c .before .before .loop-test .taken) (in-other _ _ _ _ _ (c .if1 .left))
 
 returns-2 : tie.Need-returns-2 Inv-loop μ-loop
-returns-2 c = scan.done (c .before .loop .inv) (c .loop-test .left)
+returns-2 c = scan.scan-done (c .before .loop .inv) (c .loop-test .left)
 
 pub find-sparse-spec : {M : Type 1} → statement M
 find-sparse-spec =

@@ -1,7 +1,6 @@
 -- The slot's four numbers hold what they hold. Assumes nothing.
 use borrow.Author.Needs.{needs}
-use mathlib.Core.Path.{_≡_}
-use Rattle.decide.specs.Stored.{heldAt}
+use Rattle.slots.specs.Stored.{heldAt}
 use Rattle.slots.proofs.held_at.Statement.{statement}
 use Rattle.slots.proofs.held_at.Tie as tie
 

@@ -1,7 +1,6 @@
 -- The numbers that are stored are the order's. Assumes nothing.
 use borrow.Author.Needs.{needs}
-use mathlib.Core.Path.{_≡_}
-use Rattle.decide.specs.Stored.{putOrder}
+use Rattle.slots.specs.Stored.{putOrder}
 use Rattle.slots.proofs.put_order.Statement.{statement}
 use Rattle.slots.proofs.put_order.Tie as tie
 

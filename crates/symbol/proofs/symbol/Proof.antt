@@ -9,15 +9,15 @@ use Rattle.symbol.proofs.symbol.Tie as tie
 add-end : tie.Need-add-end
 add-end c =
     let a = c .before .before .before .before .args in
-    omega (arith, inside (a .directory .now) (a .message .now) _ (c .before .place .ensures))
+    omega (arith, inside (a .directory .now) (a .message .now) _ (c .before .part-of .ensures))
 
 part-end : tie.Need-part-result-end
 part-end c =
     let a = c .before .before .before .before .args in
-    inside (a .directory .now) (a .message .now) _ (c .before .place .ensures)
+    inside (a .directory .now) (a .message .now) _ (c .before .part-of .ensures)
 
 returns : tie.Need-returns
-returns c = cut (c .before .before .before .before .before .args .message) _ _ _ (c .before .before .place .ensures) refl refl
+returns c = cut (c .before .before .before .before .before .args .message) _ _ _ (c .before .before .part-of .ensures) refl refl
 
 pub symbol-spec : {M : Type 1} → statement M
 symbol-spec =

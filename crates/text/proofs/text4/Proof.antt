@@ -3,7 +3,7 @@
 use mathlib.Core.Path.{ap, _∙_}
 use native.Mathlib.Omega.{arith}
 use borrow.Author.Needs.{needs}
-use Rattle.text.specs.TextLaws.{padded, fault-padded, textFault}
+use Rattle.text.specs.TextLaws.{padded-text, fault-padded, textFault}
 use Rattle.text.proofs.text4.Statement.{statement}
 use Rattle.text.proofs.text4.Tie as tie
 
@@ -17,7 +17,7 @@ text8-requires : tie.Need-text8-requires
 text8-requires c κs = search needs
 
 returns : tie.Need-returns
-unfolding padded
+unfolding padded-text
 returns c =
     (c .text8 .ensures .0 ∙ ap (textFault 8) (omega arith) ∙ fault-padded 4 4 (c .before .args .v), c .text8 .ensures .1)
 

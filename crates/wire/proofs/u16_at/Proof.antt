@@ -2,7 +2,7 @@
 use borrow.Author.Needs.{needs}
 use native.Mathlib.Omega.{arith}
 use Prim.Native.Nat.{_+_}
-use Rattle.laws.specs.FieldLaws.{one, join}
+use Rattle.laws.specs.FieldLaws.{field-one, join}
 use Rattle.wire.proofs.u16_at.Statement.{statement}
 use Rattle.wire.proofs.u16_at.Tie as tie
 
@@ -10,7 +10,7 @@ returns : tie.Need-returns
 returns c =
     let a = c .before .before .before .before .before .args in
     let s = a .s .now in
-    omega (arith, join s (a .at) 1 1, one s (a .at), one s (a .at + 1))
+    omega (arith, join s (a .at) 1 1, field-one s (a .at), field-one s (a .at + 1))
 
 pub u16-at-spec : {M : Type 1} → statement M
 u16-at-spec =

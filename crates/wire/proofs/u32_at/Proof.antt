@@ -6,14 +6,14 @@ use native.Mathlib.Omega.{arith}
 use Prim.Native.Nat.{ℕ, _+_, _*_}
 use lib.ListN.{getD}
 use Rattle.laws.specs.Field.{field}
-use Rattle.laws.specs.FieldLaws.{one, join}
+use Rattle.laws.specs.FieldLaws.{field-one, join}
 use Rattle.wire.proofs.Digits.{turned-round}
 use Rattle.wire.proofs.u32_at.Statement.{statement}
 use Rattle.wire.proofs.u32_at.Tie as tie
 
 -- four bytes side by side
 four : (s : List ℕ) (at : ℕ) → getD s at 0 * 16777216 + getD s (at + 1) 0 * 65536 + getD s (at + 2) 0 * 256 + getD s (at + 3) 0 ≡ field s at 4
-four s at = omega (arith, join s at 3 1, join s at 2 1, join s at 1 1, one s at, one s (at + 1), one s (at + 2), one s (at + 3))
+four s at = omega (arith, join s at 3 1, join s at 2 1, join s at 1 1, field-one s at, field-one s (at + 1), field-one s (at + 2), field-one s (at + 3))
 
 returns : tie.Need-returns
 returns c =

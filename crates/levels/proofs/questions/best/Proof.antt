@@ -1,4 +1,4 @@
--- The best level is the first from no step on. Assumes nothing.
+-- The best level is the first from no tick on. Assumes nothing.
 use borrow.Author.Needs.{needs}
 use Rattle.levels.specs.Levels.{bestOf}
 use Rattle.levels.proofs.questions.best.Statement.{statement}

@@ -1,4 +1,4 @@
--- What was asked of one step, turned into the level of its price. Assumes nothing.
+-- What was asked of one tick, turned into the level of its price. Assumes nothing.
 use borrow.Author.Needs.{needs}
 use mathlib.Core.Path.{sym, _∙_}
 use Rattle.levels.specs.Answers.{level-refused, level-answered}
@@ -8,16 +8,16 @@ use Rattle.levels.proofs.questions.level.Tie as tie
 returns : tie.Need-returns
 returns c =
     let a = c .before .before .before .before .before .before .before .args in
-    let steps = c .before .before .before .before .steps-to .ensures in
-    level-refused _ (a .locate) (a .side) (a .price) _ _ (c .before .before .before .before .before .side-of .ensures) (steps .0) (steps .1) _
-    (sym (c .before .before .before .ask .ensures) ∙ c .before .asked .given .1)
+    let ticks = c .before .before .before .before .ticks-to .ensures in
+    level-refused _ (a .locate) (a .side) (a .price) _ _ (c .before .before .before .before .before .of .ensures) (ticks .0) (ticks .1) _
+    (sym (c .before .before .before .ask .ensures) ∙ c .before .scanned .given .1)
 
 returns-2 : tie.Need-returns-2
 returns-2 c =
     let a = c .before .before .before .before .before .before .before .args in
-    let steps = c .before .before .before .before .steps-to .ensures in
-    level-answered _ (a .locate) (a .side) (a .price) _ _ (c .before .before .before .before .before .side-of .ensures) (steps .0) (steps .1) (c .before .before .before .before .before .before .before .fits .price .fits) _
-    (sym (c .before .before .before .ask .ensures) ∙ c .before .asked2 .given .1)
+    let ticks = c .before .before .before .before .ticks-to .ensures in
+    level-answered _ (a .locate) (a .side) (a .price) _ _ (c .before .before .before .before .before .of .ensures) (ticks .0) (ticks .1) (c .before .before .before .before .before .before .before .fits .price .fits) _
+    (sym (c .before .before .before .ask .ensures) ∙ c .before .scanned2 .given .1)
 
 pub level-spec : {M : Type 1} → statement M
 level-spec =

@@ -1,4 +1,4 @@
--- The two sides count their steps from either end of the prices. Assumes nothing.
+-- The two sides count their ticks from either end of the prices. Assumes nothing.
 use borrow.Author.Needs.{needs}
 use mathlib.Core.Path.{refl}
 use Rattle.levels.proofs.questions.price_at.Statement.{statement}

@@ -1,0 +1,5 @@
+pub mod Concerned
+pub mod ConcernedLaws
+pub mod HeldLaws
+pub mod Stepped
+pub mod Stored
