@@ -2,6 +2,7 @@
 use borrow.Author.Needs.{needs}
 use borrow.Author.Tests.{eq-eqb, ne-eqb}
 use mathlib.Core.Path.{sym, _∙_}
+use native.Mathlib.Omega.{arith}
 use Rattle.slots.specs.Concerned.{concernOf}
 use Rattle.slots.proofs.concerned.Statement.{statement}
 use Rattle.slots.proofs.concerned.Tie as tie
@@ -28,7 +29,9 @@ returns-3 c =
     let g = c .before .before .before .before .before .before in
     let f = g .before .before .before .before in
     let h = sym (g .before .before .held-at .ensures) ∙ g .held .given .1 in
-    rw (f .found .given .1, h, c .of3 .ensures, ne-eqb _ _ (c .before .if1 .taken))
+    let own = g .held .given .0 .0 .locate .0 in
+    let its = f .before .before .before .args .locate .0 in
+    rw (f .found .given .1, h, c .of3 .ensures, ne-eqb own its (λ e. omega (arith, c .before .if1 .taken)))
 
 returns-4 : tie.Need-returns-4
 unfolding concernOf
@@ -36,7 +39,9 @@ returns-4 c =
     let g = c .before .before .before .before .before in
     let f = g .before .before .before .before in
     let h = sym (g .before .before .held-at .ensures) ∙ g .held .given .1 in
-    rw (f .found .given .1, h, eq-eqb _ _ (c .if1 .left))
+    let own = g .held .given .0 .0 .locate .0 in
+    let its = f .before .before .before .args .locate .0 in
+    rw (f .found .given .1, h, eq-eqb own its (omega (arith, c .if1 .left)))
 
 pub concerned-spec : {M : Type 1} → statement M
 concerned-spec =
