@@ -5,7 +5,7 @@ use native.Mathlib.Omega.{arith}
 use mathlib.Core.Path.{_≡_, refl, ap, _∙_}
 use mathlib.Core.Bool.{true, false}
 use mathlib.Core.Logic.{⊎-elim}
-use mathlib.Core.List.{List}
+use mathlib.Core.List.{List, [], _∷_}
 use borrow.Author.Tests.{le-leb, leb-true}
 use lib.Dec.{leb}
 use lib.ListN.{length, take, drop, length-drop}
@@ -13,7 +13,7 @@ use lib.Seq.{getD-drop, drop-drop}
 use Rattle.laws.specs.Bools.{cases, and-both, and-right}
 use Rattle.laws.specs.Field.{field}
 use Rattle.blocks.specs.declared.Block.the-variants.{Whole, Part}
-use Rattle.blocks.specs.Blocks.{promised, wholeBlock, body, behind, blockAt}
+use Rattle.blocks.specs.Blocks.{promised, wholeBlock, body, behind, messagesIn, leftIn, messagesOf, leftOf, blockAt}
 
 -- ---- the block that begins a stream
 
@@ -33,6 +33,32 @@ not-whole s l = ⊎-elim (λ e. let f = whole-fits s e in absurd (omega arith)) 
 pub length-behind : (s : List ℕ) → wholeBlock s ≡ true → length (behind s) + 2 + promised s ≡ length s
 unfolding behind
 length-behind s e = let f = whole-fits s e in simp length-drop (omega arith)
+
+-- ---- the messages of an input
+
+-- more blocks than there are change nothing
+in-same : (n m : ℕ) (s : List ℕ) → length s ≤ n → length s ≤ m → (messagesIn n s ≡ messagesIn m s) × (leftIn n s ≡ leftIn m s)
+unfolding messagesIn leftIn
+in-same zero zero s p q = (refl, refl)
+in-same zero (suc m) s p q = rw (not-whole s (omega arith)) (refl, refl)
+in-same (suc n) zero s p q = rw (not-whole s (omega arith)) (refl, refl)
+in-same (suc n) (suc m) s p q =
+    ⊎-elim
+    (λ w. let l = length-behind s w in let h = in-same n m (behind s) (omega arith) (omega arith) in rw (w, h .0, h .1) (refl, refl))
+    (λ w. rw w (refl, refl))
+    (cases (wholeBlock s))
+
+pub no-message : (s : List ℕ) → wholeBlock s ≡ false → (messagesOf s ≡ []) × (leftOf s ≡ s)
+unfolding messagesIn leftIn
+no-message s w = let h = in-same (length s) (suc (length s)) s (omega arith) (omega arith) in rw (h .0, h .1, w) (refl, refl)
+
+pub first-message : (s : List ℕ) → wholeBlock s ≡ true → (messagesOf s ≡ body s ∷ messagesOf (behind s)) × (leftOf s ≡ leftOf (behind s))
+unfolding messagesIn leftIn
+first-message s w =
+    let l = length-behind s w in
+    let h = in-same (length s) (suc (length s)) s (omega arith) (omega arith) in
+    let k = in-same (length s) (length (behind s)) (behind s) (omega arith) (omega arith) in
+    rw (h .0, h .1, w, k .0, k .1) (refl, refl)
 
 -- ---- the block that begins at a place
 

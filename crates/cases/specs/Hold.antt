@@ -22,7 +22,9 @@ use Rattle.directory.specs.Directory.{mostNumbers, goodLength, entryAt, registe
 use Rattle.book.specs.Book.{mostWords, wordsOf, live, numberAt, holds, isFree, foundBelow, find, lowestFree, four, putSlot, clearSlot}
 use Rattle.orders.specs.Order.{remaining, executedBy, cancelledBy, closedOf, second, third, fourth, sound, orderOf, held}
 use Rattle.fresh.specs.Fresh.{goodShapes, madeNumber, madeOf}
-use Rattle.apply.specs.Apply.{After, applied, numberOf}
+use Rattle.apply.specs.declared.Outcome.{Outcome}
+use Rattle.apply.specs.Apply.{applied, numberOf}
+use Rattle.apply.specs.Runs.{Tables, freshTables, tablesAfter, answerTo, reached}
 use Rattle.accounts.specs.Accounts.{orderAsked}
 use Rattle.levels.specs.Levels.{levelAt, levelOf}
 use Rattle.levels.specs.Totals.{total, weighed}
@@ -30,34 +32,25 @@ use Rattle.replies.specs.Replies.{accountNumber, accountRow, quoteNumber, level
 use Rattle.outcomes.specs.Outcomes.{orderRow}
 use Rattle.cases.specs.Table.{Case, read, run, account, level, shape, table}
 
--- the answer to the last of some messages applied in turn, and both tables then
-abbrev pub onward : After → List (List ℕ) → After
-onward a [] = a
-onward a (s ∷ ss) = onward (applied (a .directory) (a .book) s) ss
-
-abbrev pub lastly : List ℕ → List ℕ → List (List ℕ) → After
-lastly d b [] = applied d b []
-lastly d b (s ∷ ss) = onward (applied d b s) ss
+-- both tables after messages applied in turn
+abbrev pub tables : List (List ℕ) → Tables
+tables ms = reached (freshTables 2 257) ms
 
 -- an answer and both tables are those of a row
-pub record Left (a : After) (n : ℕ) (figures d b : List ℕ) : Type 0 where
-  pub number : numberOf (a .outcome) ≡ n
-  pub orders : orderRow (a .outcome) ≡ figures
-  pub directory : a .directory ≡ d
-  pub book : a .book ≡ b
-
--- the book that is left
-abbrev pub left : List (List ℕ) → List ℕ
-left ms = lastly (replicate 2 0) (replicate 257 0) ms .book
+pub record Left (o : Outcome) (t : Tables) (n : ℕ) (figures d b : List ℕ) : Type 0 where
+  pub number : numberOf o ≡ n
+  pub orders : orderRow o ≡ figures
+  pub directory : t .directory ≡ d
+  pub book : t .book ≡ b
 
 -- what a row claims
 abbrev pub Holds : Case → Type 0
 Holds (read s n) = answerNumber (answer s) ≡ n
-Holds (run ms n figures d b) = Left (lastly (replicate 2 0) (replicate 257 0) ms) n figures d b
-Holds (account ms r n values) = (accountNumber (orderAsked (left ms) r) ≡ n) × (accountRow (orderAsked (left ms) r) ≡ values)
-Holds (level ms l side p n values) = (quoteNumber (levelOf (left ms) l side p) ≡ n) × (levelRow (levelOf (left ms) l side p) ≡ values)
+Holds (run ms s n figures d b) = Left (answerTo (tables ms) s) (tablesAfter (tables ms) s) n figures d b
+Holds (account ms r n values) = (accountNumber (orderAsked (tables ms .book) r) ≡ n) × (accountRow (orderAsked (tables ms .book) r) ≡ values)
+Holds (level ms l side p n values) = (quoteNumber (levelOf (tables ms .book) l side p) ≡ n) × (levelRow (levelOf (tables ms .book) l side p) ≡ values)
 Holds (shape d b n m) =
-    (madeNumber (madeOf (replicate d 0) (replicate b 0)) ≡ n) × (numberOf (applied (replicate d 0) (replicate b 0) [] .outcome) ≡ m)
+    (madeNumber (madeOf (replicate d 0) (replicate b 0)) ≡ n) × (numberOf (answerTo (freshTables d b) []) ≡ m)
 
 -- ---- the same as a test
 
@@ -74,18 +67,17 @@ same-true (x ∷ xs) [] e = absurd (false≢true e)
 same-true (x ∷ xs) (y ∷ ys) e =
     ap₂ _∷_ (eqb-true x y (and-left (eqb x y) (same xs ys) e)) (same-true xs ys (and-right (eqb x y) (same xs ys) e))
 
-abbrev ran : After → ℕ → List ℕ → List ℕ → List ℕ → Bool
-ran a n figures d b =
-    eqb (numberOf (a .outcome)) n && (same (orderRow (a .outcome)) figures && (same (a .directory) d && same (a .book) b))
+abbrev ran : Outcome → Tables → ℕ → List ℕ → List ℕ → List ℕ → Bool
+ran o t n figures d b = eqb (numberOf o) n && (same (orderRow o) figures && (same (t .directory) d && same (t .book) b))
 
 abbrev passes : Case → Bool
 passes (read s n) = eqb (answerNumber (answer s)) n
-passes (run ms n figures d b) = ran (lastly (replicate 2 0) (replicate 257 0) ms) n figures d b
-passes (account ms r n values) = eqb (accountNumber (orderAsked (left ms) r)) n && same (accountRow (orderAsked (left ms) r)) values
+passes (run ms s n figures d b) = ran (answerTo (tables ms) s) (tablesAfter (tables ms) s) n figures d b
+passes (account ms r n values) = eqb (accountNumber (orderAsked (tables ms .book) r)) n && same (accountRow (orderAsked (tables ms .book) r)) values
 passes (level ms l side p n values) =
-    eqb (quoteNumber (levelOf (left ms) l side p)) n && same (levelRow (levelOf (left ms) l side p)) values
+    eqb (quoteNumber (levelOf (tables ms .book) l side p)) n && same (levelRow (levelOf (tables ms .book) l side p)) values
 passes (shape d b n m) =
-    eqb (madeNumber (madeOf (replicate d 0) (replicate b 0))) n && eqb (numberOf (applied (replicate d 0) (replicate b 0) [] .outcome)) m
+    eqb (madeNumber (madeOf (replicate d 0) (replicate b 0))) n && eqb (numberOf (answerTo (freshTables d b) [])) m
 
 abbrev all-pass : List Case → Bool
 all-pass [] = true
@@ -100,19 +92,19 @@ computed = refl
 
 -- ---- and back
 
-ran-left : (a : After) (n : ℕ) (figures d b : List ℕ) → ran a n figures d b ≡ true → Left a n figures d b
-ran-left a n figures d b e =
-    let t0 = eqb (numberOf (a .outcome)) n in
-    let t1 = same (orderRow (a .outcome)) figures in
-    let t2 = same (a .directory) d in
-    let t3 = same (a .book) b in
+ran-left : (o : Outcome) (t : Tables) (n : ℕ) (figures d b : List ℕ) → ran o t n figures d b ≡ true → Left o t n figures d b
+ran-left o t n figures d b e =
+    let t0 = eqb (numberOf o) n in
+    let t1 = same (orderRow o) figures in
+    let t2 = same (t .directory) d in
+    let t3 = same (t .book) b in
     let e1 = and-right t0 (t1 && (t2 && t3)) e in
     let e2 = and-right t1 (t2 && t3) e1 in
     record {
-      number = eqb-true (numberOf (a .outcome)) n (and-left t0 (t1 && (t2 && t3)) e);
-      orders = same-true (orderRow (a .outcome)) figures (and-left t1 (t2 && t3) e1);
-      directory = same-true (a .directory) d (and-left t2 t3 e2);
-      book = same-true (a .book) b (and-right t2 t3 e2);
+      number = eqb-true (numberOf o) n (and-left t0 (t1 && (t2 && t3)) e);
+      orders = same-true (orderRow o) figures (and-left t1 (t2 && t3) e1);
+      directory = same-true (t .directory) d (and-left t2 t3 e2);
+      book = same-true (t .book) b (and-right t2 t3 e2);
     }
 
 both : (x n : ℕ) (xs ys : List ℕ) → eqb x n && same xs ys ≡ true → (x ≡ n) × (xs ≡ ys)
@@ -121,12 +113,12 @@ both x n xs ys e =
 
 means : (c : Case) → passes c ≡ true → Holds c
 means (read s n) e = eqb-true (answerNumber (answer s)) n e
-means (run ms n figures d b) e = ran-left (lastly (replicate 2 0) (replicate 257 0) ms) n figures d b e
-means (account ms r n values) e = both (accountNumber (orderAsked (left ms) r)) n (accountRow (orderAsked (left ms) r)) values e
-means (level ms l side p n values) e = both (quoteNumber (levelOf (left ms) l side p)) n (levelRow (levelOf (left ms) l side p)) values e
+means (run ms s n figures d b) e = ran-left (answerTo (tables ms) s) (tablesAfter (tables ms) s) n figures d b e
+means (account ms r n values) e = both (accountNumber (orderAsked (tables ms .book) r)) n (accountRow (orderAsked (tables ms .book) r)) values e
+means (level ms l side p n values) e = both (quoteNumber (levelOf (tables ms .book) l side p)) n (levelRow (levelOf (tables ms .book) l side p)) values e
 means (shape d b n m) e =
     let x = madeNumber (madeOf (replicate d 0) (replicate b 0)) in
-    let y = numberOf (applied (replicate d 0) (replicate b 0) [] .outcome) in
+    let y = numberOf (answerTo (freshTables d b) []) in
     (eqb-true x n (and-left (eqb x n) (eqb y m) e), eqb-true y m (and-right (eqb x n) (eqb y m) e))
 
 passed : {c : Case} {cs : List Case} → all-pass cs ≡ true → Among c cs → passes c ≡ true

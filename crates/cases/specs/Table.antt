@@ -9,9 +9,9 @@ use lib.ListN.{replicate}
 pub data Case : Type 0 where
   -- bytes that are read, and the number of the answer
   read : (bytes : List ℕ) (number : ℕ) → Case
-  -- messages applied in turn to fresh tables, of 2 and of 257 numbers: of the last answer its number and the order's figures, and
-  -- both whole tables that are left
-  run : (messages : List (List ℕ)) (number : ℕ) (figures directory book : List ℕ) → Case
+  -- messages applied in turn to fresh tables, of 2 and of 257 numbers, and one more: of its answer the number and the order's figures,
+  -- and both whole tables that are left
+  run : (messages : List (List ℕ)) (last : List ℕ) (number : ℕ) (figures directory book : List ℕ) → Case
   -- messages applied in turn to such tables, and then a question about an order: the number of the answer and its eight values
   account : (messages : List (List ℕ)) (reference number : ℕ) (values : List ℕ) → Case
   -- the same, and then a question about a level: the number of the answer, total and count
@@ -59,12 +59,16 @@ replaceOf original new shares price = header 85 0 ++ be 8 original ++ be 8 new +
 abbrev pub five : List ℕ
 five = add 5 66 300 100000
 
--- R, then order 5, E 100 and X 50
-abbrev pub fourthOf : List (List ℕ)
-fourthOf = registerOf ∷ five ∷ execute 5 100 ∷ cancel 5 50 ∷ []
+-- R, then order 5 and E 100; then X 50
+abbrev pub thirdOf : List (List ℕ)
+thirdOf = registerOf ∷ five ∷ execute 5 100 ∷ []
 
-abbrev pub twoSells : List (List ℕ)
-twoSells = registerOf ∷ add 5 83 4294967295 100000 ∷ add 6 83 4294967295 100000 ∷ []
+abbrev pub fourthOf : List (List ℕ)
+fourthOf = thirdOf ++ (cancel 5 50 ∷ [])
+
+-- a sell of the most shares
+abbrev pub sell : ℕ → List ℕ
+sell reference = add reference 83 4294967295 100000
 
 -- buys of 300 at 100000 with the references n down to 1
 abbrev pub fill : ℕ → List (List ℕ)
@@ -117,30 +121,30 @@ table =
     ∷ read (add 5 66 300 2000000000) 0
     ∷ read (add 5 66 300 2000000001) 5
     -- 4: A of 300, E 100, X 50: 150 remain, and the numbers of the slot
-    ∷ run (registerOf ∷ five ∷ []) 0 (bought 300 300) listed (holding 5 0x000186A00000012C 0 0x0001424E53445100)
-    ∷ run fourthOf 0 (bought 50 150) listed fourthBook
+    ∷ run (registerOf ∷ []) five 0 (bought 300 300) listed (holding 5 0x000186A00000012C 0 0x0001424E53445100)
+    ∷ run thirdOf (cancel 5 50) 0 (bought 50 150) listed fourthBook
     ∷ account fourthOf 5 0 (300 ∷ 100 ∷ 50 ∷ 150 ∷ 1 ∷ 66 ∷ 100000 ∷ 0x4E534451 ∷ [])
     ∷ level fourthOf 1 66 100000 0 (150 ∷ 1 ∷ [])
     -- 5: then E 151: 11; E 150 instead: gone
-    ∷ run (fourthOf ++ (execute 5 151 ∷ [])) 11 (replicate 10 0) listed fourthBook
-    ∷ run (fourthOf ++ (execute 5 150 ∷ [])) 0 (bought 150 0) listed empty
+    ∷ run fourthOf (execute 5 151) 11 (replicate 10 0) listed fourthBook
+    ∷ run fourthOf (execute 5 150) 0 (bought 150 0) listed empty
     ∷ account (fourthOf ++ (execute 5 150 ∷ [])) 5 10 (replicate 8 0)
     ∷ level (fourthOf ++ (execute 5 150 ∷ [])) 1 66 100000 0 (0 ∷ 0 ∷ [])
     -- 6: U with new equal to original: 9
-    ∷ run (fourthOf ++ (replaceOf 5 5 10 100000 ∷ [])) 9 (replicate 10 0) listed fourthBook
+    ∷ run fourthOf (replaceOf 5 5 10 100000) 9 (replicate 10 0) listed fourthBook
     -- 7: D, then A with the same reference: a new life
-    ∷ run (fourthOf ++ (deleteAt 0 5 ∷ [])) 0 (bought 150 0) listed empty
-    ∷ run (fourthOf ++ (deleteAt 0 5 ∷ five ∷ [])) 0 (bought 300 300) listed (holding 5 0x000186A00000012C 0 0x0001424E53445100)
+    ∷ run fourthOf (deleteAt 0 5) 0 (bought 150 0) listed empty
+    ∷ run (fourthOf ++ (deleteAt 0 5 ∷ [])) five 0 (bought 300 300) listed (holding 5 0x000186A00000012C 0 0x0001424E53445100)
     -- 8: two sells of 4,294,967,295 at one price: total 8,589,934,590, count 2
-    ∷ run twoSells 0
+    ∷ run (registerOf ∷ sell 5 ∷ []) (sell 6) 0
     (1 ∷ 83 ∷ 100000 ∷ 4294967295 ∷ 4294967295 ∷ replicate 5 0) listed
     (holdingTwo 5 0x000186A0FFFFFFFF 0 0x0001534E53445100 6 0x000186A0FFFFFFFF 0 0x0001534E53445100)
-    ∷ level twoSells 1 83 100000 0 (8589934590 ∷ 2 ∷ [])
+    ∷ level (registerOf ∷ sell 5 ∷ sell 6 ∷ []) 1 83 100000 0 (8589934590 ∷ 2 ∷ [])
     -- 9: 64 live of 64: A gets 12, U is accepted; D, then A: accepted in the freed slot
-    ∷ run (registerOf ∷ fill 64 ++ (add 65 66 300 100000 ∷ [])) 12 (replicate 10 0) listed filled
-    ∷ run (registerOf ∷ fill 64 ++ (replaceOf 30 65 300 100000 ∷ [])) 0
+    ∷ run (registerOf ∷ fill 64) (add 65 66 300 100000) 12 (replicate 10 0) listed filled
+    ∷ run (registerOf ∷ fill 64) (replaceOf 30 65 300 100000) 0
     (1 ∷ 66 ∷ 100000 ∷ 300 ∷ 0 ∷ 1 ∷ 66 ∷ 100000 ∷ 300 ∷ 300 ∷ []) listed (filledBut 30 65)
-    ∷ run (registerOf ∷ fill 64 ++ (deleteAt 0 30 ∷ add 65 66 300 100000 ∷ [])) 0 (bought 300 300) listed (filledBut 30 65)
+    ∷ run (registerOf ∷ fill 64 ++ (deleteAt 0 30 ∷ [])) (add 65 66 300 100000) 0 (bought 300 300) listed (filledBut 30 65)
     -- 10: book lengths 257 and 16,448 pass; 0, 256, 258 and 16,705: 14
     ∷ shape 2 257 0 1
     ∷ shape 2 16448 0 1

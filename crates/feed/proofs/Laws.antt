@@ -13,7 +13,7 @@ use Rattle.records.specs.Append.{appended, reach}
 use Rattle.records.specs.Records.{refusalRecord}
 use Rattle.records.specs.RecordLaws.{appended-fits, reach-fits, appended-over, reach-over, length-refusalRecord}
 use Rattle.feed.specs.declared.Tally.{Tally}
-use Rattle.feed.specs.Feed.{FeedLeaves, closes, counted, more, onward, recordOf, told}
+use Rattle.feed.specs.Feed.{FeedLeaves, closes, counted, dayAfter, more, recordOf, told}
 use Rattle.feed.specs.Step.{stepped}
 
 -- ---- a record behind those in a buffer
@@ -50,11 +50,11 @@ module _ (t : Tally) (number : ℕ) where
 
 -- ---- one message
 
-pub one : (s : List ℕ) (end : ℕ) (x : FeedLeaves) (a : After) (number w : ℕ) (t : Tally) (o : List ℕ) → a ≡ applied (x .directory) (x .book) s
+pub one : (s : List ℕ) (end : ℕ) (x : FeedLeaves) (a : After) (number w : ℕ) (t : Tally) (o : List ℕ) → a ≡ applied (x .tables .directory) (x .tables .book) s
     → number ≡ numberOf (a .outcome) → w ≡ reach (x .out) (x .fed .written) (told (x .fed .tally) number)
     → o ≡ appended (x .out) (x .fed .written) (told (x .fed .tally) number) → t ≡ counted (x .fed .tally) number
-    → record { fed = record { at = end; written = w; tally = t }; directory = a .directory; book = a .book; out = o } ≡ stepped s end x
-unfolding onward recordOf
+    → record { fed = record { at = end; written = w; tally = t }; tables = record { directory = a .directory; book = a .book }; out = o } ≡ stepped s end x
+unfolding dayAfter recordOf
 one s end x a number w t o ea en ew eo et = rw (ew, eo, et, en, ea)
 
 -- ---- the end of the input

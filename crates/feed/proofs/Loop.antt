@@ -16,9 +16,8 @@ use Rattle.blocks.specs.BlockLaws.{FoundBlock}
 use Rattle.records.specs.Append.{appended, reach}
 use Rattle.records.specs.Records.{refusalSize}
 use Rattle.records.specs.RecordLaws.{appended-fits, reach-fits}
-use Rattle.feed.specs.declared.Tally.{Tally}
-use Rattle.feed.specs.Feed.{Day, Ran, FeedLeaves, recordBehind, feedLeaves, onward, ranThrough, recordOf}
-use Rattle.feed.specs.FeedLaws.{turn-taken, through-stops, through-takes, record-fits}
+use Rattle.feed.specs.Feed.{Day, FeedLeaves, recordBehind, feedLeaves, dayAfter, ranThrough, recordOf}
+use Rattle.feed.specs.FeedLaws.{turn-taken, ran-stops, through-takes, behind-twice, record-fits}
 use Rattle.feed.specs.Step.{dayOf, stepped}
 
 -- ---- a record that fits
@@ -49,9 +48,9 @@ pub record Going (s out : List ℕ) (day : Day) (x : FeedLeaves) : Type 0 where
   pub rest : drop (x .fed .written) (x .out) ≡ drop (x .fed .written) out
   pub run : ranThrough (length out) s day ≡ recordBehind (take (x .fed .written) (x .out)) (ranThrough (length out - x .fed .written) (drop (x .fed .at) s) (dayOf x))
 
-pub start : (s d b out : List ℕ) (t : Tally)
-    → Going s out (record { directory = d; book = b; tally = t }) (record { fed = record { at = 0; written = 0; tally = t }; directory = d; book = b; out = out })
-start s d b out t = record { read = omega arith; fits = omega arith; size = refl; rest = refl; run = rw sub-zero }
+pub start : (s out : List ℕ) (day : Day)
+    → Going s out day (record { fed = record { at = 0; written = 0; tally = day .tally }; tables = day .tables; out = out })
+start s out day = record { read = omega arith; fits = omega arith; size = refl; rest = refl; run = rw sub-zero }
 
 no-room : (room : ℕ) (s : List ℕ) → room < refusalSize → turn-taken room s ≡ false
 no-room room s l = rw (lt-leb refusalSize room l) (go (wholeBlock s))
@@ -59,9 +58,6 @@ no-room room s l = rw (lt-leb refusalSize room l) (go (wholeBlock s))
     go : (b : Bool) → b && false ≡ false
     go true = refl
     go false = refl
-
-twice : (a b : List ℕ) (x : Ran) → recordBehind a (recordBehind b x) ≡ recordBehind (a ++ b) x
-twice a b x = rw append-assoc
 
 module _ (s out : List ℕ) (day : Day) (x : FeedLeaves) (g : Going s out day x) where
   abbrev w : ℕ
@@ -75,7 +71,7 @@ module _ (s out : List ℕ) (day : Day) (x : FeedLeaves) (g : Going s out day x)
   ends e =
       let l : w ≤ length (x .out) = omega arith in
       let a : length s - (length s - x .fed .at) ≡ x .fed .at = omega arith in
-      sym (ap (feedLeaves s out) (g .run ∙ ap (recordBehind (take w (x .out))) (through-stops (length out - w) here (dayOf x) e))
+      sym (ap (feedLeaves s out) (g .run ∙ ap (recordBehind (take w (x .out))) (ran-stops (length here) (length out - w) here (dayOf x) e))
       ∙ rw (append-nil, length-take-le w (x .out) l, ← g .rest, take-append-drop, length-drop, a))
 
   pub full : length (x .out) - w < refusalSize → x ≡ feedLeaves s out (ranThrough (length out) s day)
@@ -89,12 +85,12 @@ module _ (s out : List ℕ) (day : Day) (x : FeedLeaves) (g : Going s out day x)
     abbrev row : List ℕ
     row = recordOf (dayOf x) (body here)
 
-    run-more : ranThrough (length out) s day ≡ recordBehind (take w (x .out) ++ row) (ranThrough (length out - (w + length row)) (drop end s) (onward (dayOf x) (body here)))
+    run-more : ranThrough (length out) s day ≡ recordBehind (take w (x .out) ++ row) (ranThrough (length out - (w + length row)) (drop end s) (dayAfter (dayOf x) (body here)))
     run-more =
         let t = and-both (wholeBlock here) (leb refusalSize (length out - w)) (f .whole-there) (le-leb refusalSize (length out - w) (omega (arith, g .size))) in
         let n : length out - w - length row ≡ length out - (w + length row) = omega arith in
         g .run ∙ ap (recordBehind (take w (x .out))) (through-takes (length out - w) here (dayOf x) t)
-        ∙ rw (n, f .rest) (twice (take w (x .out)) row (ranThrough (length out - (w + length row)) (behind here) (onward (dayOf x) (body here))))
+        ∙ rw (n, f .rest) (behind-twice (take w (x .out)) row (ranThrough (length out - (w + length row)) (behind here) (dayAfter (dayOf x) (body here))))
 
     goes-on : Going s out day (stepped (body here) end x)
     goes-on =

@@ -2,11 +2,12 @@
 -- refused one leaves a record as it happens. The counters turn over at 2^64. Assumes nothing.
 use Prim.Native.Nat.{ℕ, zero, suc, _+_, _-_, _^_, _%_}
 use mathlib.Core.Bool.{cond, _&&_}
-use mathlib.Core.List.{List, [], _++_}
+use mathlib.Core.List.{List, [], _∷_, _++_}
 use lib.Dec.{eqb, leb}
 use lib.ListN.{length, drop}
 use Rattle.refusals.specs.Refusals.{LENGTH}
-use Rattle.apply.specs.Apply.{applied, numberOf}
+use Rattle.apply.specs.Apply.{numberOf}
+use Rattle.apply.specs.Runs.{Tables, tablesAfter, answerTo}
 use Rattle.blocks.specs.Blocks.{wholeBlock, body, behind}
 use Rattle.records.specs.Records.{refusalRecord, refusalSize}
 use Rattle.feed.specs.declared.Tally.{Tally}
@@ -14,8 +15,7 @@ use Rattle.feed.specs.declared.Fed.{Fed}
 
 -- where a day stands: both tables, how many messages there were and how many of them were refused
 pub record Day : Type 0 where
-  pub directory : List ℕ
-  pub book : List ℕ
+  pub tables : Tables
   pub tally : Tally
 
 -- one more
@@ -37,17 +37,23 @@ told t number = cond (eqb number 0) [] (refusalRecord (more (t .messages)) numbe
 
 -- 01's number for a message
 abbrev pub numbered : Day → List ℕ → ℕ
-numbered day s = numberOf (applied (day .directory) (day .book) s .outcome)
+numbered day s = numberOf (answerTo (day .tables) s)
 
-unfoldable pub onward : Day → List ℕ → Day
-onward day s = record {
-  directory = applied (day .directory) (day .book) s .directory;
-  book = applied (day .directory) (day .book) s .book;
-  tally = counted (day .tally) (numbered day s);
-}
+unfoldable pub dayAfter : Day → List ℕ → Day
+dayAfter day s = record { tables = tablesAfter (day .tables) s; tally = counted (day .tally) (numbered day s) }
 
 unfoldable pub recordOf : Day → List ℕ → List ℕ
 recordOf day s = told (day .tally) (numbered day s)
+
+-- ---- messages in turn: the day behind the last, and their records
+
+abbrev pub dayThrough : Day → List (List ℕ) → Day
+dayThrough day [] = day
+dayThrough day (s ∷ ss) = dayThrough (dayAfter day s) ss
+
+abbrev pub recordsOf : Day → List (List ℕ) → List ℕ
+recordsOf day [] = []
+recordsOf day (s ∷ ss) = recordOf day s ++ recordsOf (dayAfter day s) ss
 
 -- ---- whole blocks, while there is room for a refusal's record
 
@@ -65,7 +71,7 @@ unfoldable pub ran : ℕ → ℕ → List ℕ → Day → Ran
 ran zero room s day = record { records = []; left = s; day = day }
 ran (suc n) room s day =
     cond (wholeBlock s && leb refusalSize room)
-    (recordBehind (recordOf day (body s)) (ran n (room - length (recordOf day (body s))) (behind s) (onward day (body s))))
+    (recordBehind (recordOf day (body s)) (ran n (room - length (recordOf day (body s))) (behind s) (dayAfter day (body s))))
     (record { records = []; left = s; day = day })
 
 -- as many blocks as there are: none is shorter than 2 bytes
@@ -76,15 +82,13 @@ ranThrough room s day = ran (length s) room s day
 
 pub record FeedLeaves : Type 0 where
   pub fed : Fed
-  pub directory : List ℕ
-  pub book : List ℕ
+  pub tables : Tables
   pub out : List ℕ
 
 abbrev pub feedLeaves : List ℕ → List ℕ → Ran → FeedLeaves
 feedLeaves s out x = record {
   fed = record { at = length s - length (x .left); written = length (x .records); tally = x .day .tally };
-  directory = x .day .directory;
-  book = x .day .book;
+  tables = x .day .tables;
   out = x .records ++ drop (length (x .records)) out;
 }
 

@@ -2,11 +2,11 @@
 use Prim.Native.Nat.{ℕ}
 use mathlib.Core.List.{List}
 use Rattle.records.specs.Append.{appended, reach}
-use Rattle.feed.specs.Feed.{Day, FeedLeaves, onward, recordOf}
+use Rattle.feed.specs.Feed.{Day, FeedLeaves, dayAfter, recordOf}
 
 -- where the day stands
 abbrev pub dayOf : FeedLeaves → Day
-dayOf x = record { directory = x .directory; book = x .book; tally = x .fed .tally }
+dayOf x = record { tables = x .tables; tally = x .fed .tally }
 
 -- the message s, which ends at a place of the input
 abbrev pub stepped : List ℕ → ℕ → FeedLeaves → FeedLeaves
@@ -14,9 +14,8 @@ stepped s end x = record {
   fed = record {
     at = end;
     written = reach (x .out) (x .fed .written) (recordOf (dayOf x) s);
-    tally = onward (dayOf x) s .tally;
+    tally = dayAfter (dayOf x) s .tally;
   };
-  directory = onward (dayOf x) s .directory;
-  book = onward (dayOf x) s .book;
+  tables = dayAfter (dayOf x) s .tables;
   out = appended (x .out) (x .fed .written) (recordOf (dayOf x) s);
 }

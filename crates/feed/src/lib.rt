@@ -80,7 +80,7 @@ fn message(
     fed: Fed,
     out: &mut [u8],
 ) -> Fed
-    ensures { λ r. ⌜ record { fed = r; directory = now (directory .exit); book = now (book .exit); out = now (out .exit) } ≡ stepped (now (bytes .entry)) end (record { fed = fed; directory = now (directory .entry); book = now (book .entry); out = now (out .entry) }) ⌝ }
+    ensures { λ r. ⌜ record { fed = r; tables = record { directory = now (directory .exit); book = now (book .exit) }; out = now (out .exit) } ≡ stepped (now (bytes .entry)) end (record { fed = fed; tables = record { directory = now (directory .entry); book = now (book .entry) }; out = now (out .entry) }) ⌝ }
 {
     let tally = fed.tally;
     let number = number(apply::apply(directory, book, bytes));
@@ -100,7 +100,7 @@ pub fn feed(
     tally: Tally,
     out: &mut [u8],
 ) -> Fed
-    ensures { λ r. ⌜ record { fed = r; directory = now (directory .exit); book = now (book .exit); out = now (out .exit) } ≡ feedLeaves (now (input .entry)) (now (out .entry)) (ranThrough (length (now (out .entry))) (now (input .entry)) (record { directory = now (directory .entry); book = now (book .entry); tally = tally })) ⌝ }
+    ensures { λ r. ⌜ record { fed = r; tables = record { directory = now (directory .exit); book = now (book .exit) }; out = now (out .exit) } ≡ feedLeaves (now (input .entry)) (now (out .entry)) (ranThrough (length (now (out .entry))) (now (input .entry)) (record { tables = record { directory = now (directory .entry); book = now (book .entry) }; tally = tally })) ⌝ }
 {
     let mut fed = Fed {
         at: 0,

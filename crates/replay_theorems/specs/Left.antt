@@ -12,14 +12,12 @@ use borrow.Author.Tests.{le-leb}
 use Rattle.laws.specs.Bools.{cases}
 use Rattle.laws.specs.Least.{lt-or-le}
 use Rattle.laws.specs.FieldLaws.{field-lt}
-use Rattle.blocks.specs.Blocks.{promised, wholeBlock, body, behind}
+use Rattle.blocks.specs.Blocks.{promised, wholeBlock, body, behind, leftIn}
 use Rattle.blocks.specs.BlockLaws.{is-whole, not-whole, length-behind}
 use Rattle.records.specs.Records.{refusalSize}
-use Rattle.feed.specs.Feed.{Day, onward, recordOf, ran, ranThrough}
-use Rattle.feed.specs.FeedLaws.{through-takes}
-use Rattle.replay_theorems.specs.Replay.{throughout}
+use Rattle.feed.specs.Feed.{Day, dayAfter, recordOf, ran, ranThrough}
+use Rattle.feed.specs.FeedLaws.{by-block, through-takes}
 use Rattle.replay_theorems.specs.Statements.{LeftBehind, PartLeft, GoesOn, longest, HasRoom}
-use Rattle.replay_theorems.specs.RanLaws.{by-block, throughout-stops, throughout-goes}
 
 -- ---- the rest of its input
 
@@ -62,7 +60,7 @@ length-left n room s day =
 pub goes-on : GoesOn
 goes-on room s day w h =
     let first = recordOf day (body s) in
-    let next = onward day (body s) in
+    let next = dayAfter day (body s) in
     let l = length-left (length (behind s)) (room - length first) (behind s) next in
     let e = ap (λ x. length (x .left)) (through-takes room s day (rw (w, le-leb refusalSize room h))) in
     omega (arith, e, l, length-behind s w)
@@ -77,13 +75,12 @@ has-room s b w =
 
 -- ---- no whole block
 
-ends : (n : ℕ) (s : List ℕ) (day : Day) → length s ≤ n → wholeBlock (throughout s day .left) ≡ false
-ends zero s day l = let e = not-whole s (omega arith) in rw (throughout-stops s day e) e
-ends (suc n) s day l =
-    ⊎-elim
-    (λ (w : wholeBlock s ≡ true). rw (throughout-goes s day w) (ends n (behind s) (onward day (body s)) (omega (arith, length-behind s w))))
-    (λ (w : wholeBlock s ≡ false). rw (throughout-stops s day w) w) (cases (wholeBlock s))
+ends : (n : ℕ) (s : List ℕ) → length s ≤ n → wholeBlock (leftIn n s) ≡ false
+unfolding leftIn
+ends zero s l = not-whole s (omega arith)
+ends (suc n) s l =
+    ⊎-elim (λ w. rw w (ends n (behind s) (omega (arith, length-behind s w)))) (λ w. rw w w) (cases (wholeBlock s))
 
 -- THEOREM: what is left in the end is no whole block
 pub part-left : PartLeft
-part-left s day = ends (length s) s day (omega arith)
+part-left s = ends (length s) s (omega arith)

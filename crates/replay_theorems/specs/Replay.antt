@@ -1,12 +1,14 @@
--- THE DEFINITION of the replay program (01): what it writes for any input. Blocks are applied in turn to fresh tables, refusals are
--- told as they happen; a part of a block at the end is one message more, refused with 1; then the levels, and the counts.
+-- THE DEFINITION of the replay program (01): what it writes for any input. Its messages are applied in turn to fresh tables, refusals
+-- are told as they happen; a part of a block at the end is one message more, refused with 1; then the levels, and the counts.
 -- Assumes nothing.
 use Prim.Native.Nat.{ℕ, _*_, _-_}
 use mathlib.Core.List.{List, _++_}
-use lib.ListN.{length, replicate}
+use lib.ListN.{length}
 use Rattle.book.specs.Book.{wordsOf}
-use Rattle.records.specs.Records.{tallyRecord, refusalSize}
-use Rattle.feed.specs.Feed.{Day, Ran, ranThrough, closedTally, closedRecord}
+use Rattle.apply.specs.Runs.{freshTables}
+use Rattle.blocks.specs.Blocks.{messagesOf, leftOf}
+use Rattle.records.specs.Records.{tallyRecord}
+use Rattle.feed.specs.Feed.{Day, dayThrough, recordsOf, closedTally, closedRecord}
 use Rattle.ladders.specs.Ladders.{firstOf, levelsFrom}
 
 -- a directory of 2,048 numbers, one for each of as many locates, and a book of 1,024 slots
@@ -20,11 +22,7 @@ abbrev pub bookWords : ℕ
 bookWords = 16
 
 unfoldable pub freshDay : Day
-freshDay = record {
-  directory = replicate directoryNumbers 0;
-  book = replicate (257 * bookWords) 0;
-  tally = record { messages = 0; refused = 0 };
-}
+freshDay = record { tables = freshTables directoryNumbers (257 * bookWords); tally = record { messages = 0; refused = 0 } }
 
 -- every level of the book: locate 0 is never used
 unfoldable pub allLevels : List ℕ → List ℕ
@@ -34,11 +32,7 @@ allLevels b = levelsFrom b (wordsOf (length b)) (firstOf 1) (firstOf locates - f
 unfoldable pub ended : List ℕ → Day → List ℕ
 ended left day =
     let t = closedTally (length left) (day .tally) in
-    closedRecord (length left) (day .tally) ++ (allLevels (day .book) ++ tallyRecord (t .messages) (t .refused))
-
--- room for a record for every byte: there are fewer blocks
-abbrev pub throughout : List ℕ → Day → Ran
-throughout s day = ranThrough (refusalSize * length s) s day
+    closedRecord (length left) (day .tally) ++ (allLevels (day .tables .book) ++ tallyRecord (t .messages) (t .refused))
 
 unfoldable pub replayed : List ℕ → List ℕ
-replayed s = let x = throughout s freshDay in x .records ++ ended (x .left) (x .day)
+replayed s = recordsOf freshDay (messagesOf s) ++ ended (leftOf s) (dayThrough freshDay (messagesOf s))

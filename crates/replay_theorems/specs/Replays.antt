@@ -7,9 +7,10 @@ use Prim.Native.Nat.{ℕ}
 use lib.ListN.{length}
 use Rattle.blocks.specs.Blocks.{wholeBlock}
 use Rattle.feed.specs.Feed.{Day, recordBehind, ranThrough}
-use Rattle.replay_theorems.specs.Replay.{freshDay, ended, throughout, replayed}
+use Rattle.feed.specs.FeedLaws.{behind-twice}
+use Rattle.replay_theorems.specs.Replay.{freshDay, ended, replayed}
 use Rattle.replay_theorems.specs.Statements.{Went, begins, reads, feeds, Replays}
-use Rattle.replay_theorems.specs.RanLaws.{throughout-stops, behind-twice, cut}
+use Rattle.replay_theorems.specs.RanLaws.{throughout, throughout-stops, cut}
 use Rattle.replay_theorems.specs.Kept.{readable-always}
 use Rattle.replay_theorems.specs.Listing.{all-listed}
 
@@ -26,12 +27,11 @@ went-all (feeds s held out day room g) t =
 went-done : {s held out : List ℕ} {day : Day} → Went s held day out → wholeBlock held ≡ false
     → throughout s freshDay ≡ record { records = out; left = held; day = day }
 went-done {s} {held} {out} {day} g e =
-    ap (λ (l : List ℕ). throughout l freshDay) (sym (append-nil s)) ∙ went-all g []
-    ∙ ap (λ (l : List ℕ). recordBehind out (throughout l day)) (append-nil held) ∙ ap (recordBehind out) (throughout-stops held day e)
-    ∙ ap (λ (l : List ℕ). record { records = l; left = held; day = day }) (append-nil out)
+    simp append-nil at (went-all g []) ∙ ap (recordBehind out) (throughout-stops held day e) ∙ rw append-nil
 
 -- THEOREM: what is written is what the input fixes
 pub replays : Replays
 unfolding replayed ended
 replays s held out rows day y g e l =
-    rw (went-done g e, all-listed (day .book) rows (readable-always s held out day y g) l)
+    rw (all-listed (day .tables .book) rows (readable-always s held out day y g) l)
+    (sym (ap (λ x. x .records ++ ended (x .left) (x .day)) (went-done g e)))

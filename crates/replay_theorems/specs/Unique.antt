@@ -4,6 +4,7 @@ use mathlib.Core.Path.{_≡_, sym, ap, _∙_}
 use mathlib.Core.List.{List}
 use Prim.Native.Nat.{ℕ, _/_}
 use lib.ListN.{length}
+use Rattle.apply.specs.Runs.{Tables}
 use Rattle.blocks.specs.declared.Block.{Block}
 use Rattle.blocks.specs.Blocks.{blockAt}
 use Rattle.records.specs.Records.{levelSize}
@@ -26,22 +27,20 @@ block-unique s at r r′ p q = unique p q
 
 -- ---- whole blocks applied, and the end of the input
 
-pub record SameFed (r r′ : Fed) (d d′ b b′ o o′ : List ℕ) : Type 0 where
+pub record SameFed (r r′ : Fed) (t t′ : Tables) (o o′ : List ℕ) : Type 0 where
   pub fed : r ≡ r′
-  pub directory : d ≡ d′
-  pub book : b ≡ b′
+  pub tables : t ≡ t′
   pub out : o ≡ o′
 
-pub feed-unique : (s out : List ℕ) (day : Day) (r r′ : Fed) (d d′ b b′ o o′ : List ℕ)
-    → record { fed = r; directory = d; book = b; out = o } ≡ feed.feedLeaves s out (ranThrough (length out) s day)
-    → record { fed = r′; directory = d′; book = b′; out = o′ } ≡ feed.feedLeaves s out (ranThrough (length out) s day)
-    → SameFed r r′ d d′ b b′ o o′
-feed-unique s out day r r′ d d′ b b′ o o′ p q =
+pub feed-unique : (s out : List ℕ) (day : Day) (r r′ : Fed) (t t′ : Tables) (o o′ : List ℕ)
+    → record { fed = r; tables = t; out = o } ≡ feed.feedLeaves s out (ranThrough (length out) s day)
+    → record { fed = r′; tables = t′; out = o′ } ≡ feed.feedLeaves s out (ranThrough (length out) s day)
+    → SameFed r r′ t t′ o o′
+feed-unique s out day r r′ t t′ o o′ p q =
     let e = unique p q in
     record {
       fed = ap (λ (x : feed.FeedLeaves). x .fed) e;
-      directory = ap (λ (x : feed.FeedLeaves). x .directory) e;
-      book = ap (λ (x : feed.FeedLeaves). x .book) e;
+      tables = ap (λ (x : feed.FeedLeaves). x .tables) e;
       out = ap (λ (x : feed.FeedLeaves). x .out) e;
     }
 

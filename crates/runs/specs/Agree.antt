@@ -14,7 +14,7 @@ use Rattle.fresh.specs.Fresh.{goodShapes, madeNumber, madeOf, freshOf}
 use Rattle.apply.specs.Runs.{Tables, made, tablesAfter, answerTo, reached, said}
 use Rattle.apply_theorems.specs.Means.{shaped-good, good-shaped}
 use Rattle.runs.specs.Statements.{Run, Start, startOf, MadeStart, Alike, BothRoom, NeverFull, TasksAgree, Agree}
-use Rattle.runs.specs.Healthy.{Fitting, healthy-start, fitting-start, fitting-onward}
+use Rattle.runs.specs.Healthy.{Fitting, healthy-start, fitting-start, fitting-after}
 use Rattle.runs.specs.RunLaws.{fresh-total}
 use Rattle.runs.specs.AlikeAsks.{asks-alike}
 use Rattle.runs.specs.Alike.{alike-step}
@@ -45,7 +45,7 @@ together n k m (s ∷ ss) t u z y a f g run p q =
     (p (record { bytes = s; outcome = answerTo t s }) (here refl), q (record { bytes = s; outcome = answerTo u s }) (here refl)) in
     let step = alike-step n k m t u s z y a f g bytes room in
     let rest = together n k m ss (tablesAfter t s) (tablesAfter u s) z y (step .tables)
-    (fitting-onward n k t s z (a .first) f bytes) (fitting-onward n m u s y (a .second) g bytes)
+    (fitting-after n k t s z (a .first) f bytes) (fitting-after n m u s y (a .second) g bytes)
     (λ x h. run x (there h)) (λ x h. p x (there h)) (λ x h. q x (there h)) in
     record { answers = λ i. record { bytes = s; outcome = step .answer i } ∷ rest .answers i; tables = rest .tables }
 

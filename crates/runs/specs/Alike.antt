@@ -26,8 +26,8 @@ use Rattle.levels.specs.Totals.{total}
 use Rattle.moves.specs.Lawful.{Bytes}
 use Rattle.moves.specs.Moves.{takenOut, putIn}
 use Rattle.runs.specs.Statements.{Start, SameOrders, Alike, StepsAlike, BothRoom}
-use Rattle.runs.specs.Healthy.{Fitting, healthy-onward}
-use Rattle.runs.specs.Onward.{step-unread, step-read, step-moved}
+use Rattle.runs.specs.Healthy.{Fitting, healthy-after}
+use Rattle.runs.specs.OneMessage.{step-unread, step-read, step-moved}
 use Rattle.runs.specs.SameSeen.{found-seen}
 use Rattle.runs.specs.AlikeAsks.{alike-seen, count-same}
 use Rattle.runs.specs.Room.{room-count}
@@ -81,8 +81,8 @@ module _ (n k m : ℕ) (t u : Tables) (s : List ℕ) (z : Start n k) (y : Start 
         answer = e;
         tables = record {
           directory = d;
-          first = healthy-onward n k t s z (a .first) f bytes;
-          second = healthy-onward n m u s y (a .second) g bytes;
+          first = healthy-after n k t s z (a .first) f bytes;
+          second = healthy-after n m u s y (a .second) g bytes;
           orders = o;
         };
       }

@@ -26,7 +26,7 @@ use Rattle.levels.specs.Levels.{noQuote, checked, levelOf, bestOf, nextOf}
 use Rattle.levels.specs.Totals.{weighed, total}
 use Rattle.runs.specs.Statements.{Start, Healthy, SameOrders, Alike, AskedAlike}
 use Rattle.runs.specs.Healthy.{healthy-sound}
-use Rattle.runs.specs.Onward.{words}
+use Rattle.runs.specs.OneMessage.{words}
 use Rattle.runs.specs.SameSeen.{seen-same}
 
 -- ---- one healthy book

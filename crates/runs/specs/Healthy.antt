@@ -98,9 +98,9 @@ abbrev pub settledTables : Tables → ℕ → Asked → Verdict → Tables
 settledTables t k a v = record { directory = enrolled (t .directory) v; book = stored (t .book) k (slotSought (t .book) k a) v }
 
 -- what holds of healthy tables, and of them after any verdict with its facts, holds after a message
-pub onward-keeps : (P : Tables → Type 0) (n k : ℕ) (t : Tables) (s : List ℕ) → Start n k → Healthy n k t → Fitting t → Bytes s → P t
+pub after-keeps : (P : Tables → Type 0) (n k : ℕ) (t : Tables) (s : List ℕ) → Start n k → Healthy n k t → Fitting t → Bytes s → P t
     → ((a : Asked) (v : Verdict) → Facts (t .directory) (t .book) k a v → P (settledTables t k a v)) → P (tablesAfter t s)
-onward-keeps P n k t s z h w y p next = go (answer s) refl
+after-keeps P n k t s z h w y p next = go (answer s) refl
   where
     shaped : Shaped (t .directory) (t .book) k
     shaped = healthy-shaped z h
@@ -137,11 +137,11 @@ settled-fitting {t} k w a v f =
       book = stored-numbers (t .directory) (t .book) k a (slotSought (t .book) k a) v f (w .book);
     }
 
-pub healthy-onward : (n k : ℕ) (t : Tables) (s : List ℕ) → Start n k → Healthy n k t → Fitting t → Bytes s → Healthy n k (tablesAfter t s)
-healthy-onward n k t s z h w y = onward-keeps (Healthy n k) n k t s z h w y h (settled-healthy z h)
+pub healthy-after : (n k : ℕ) (t : Tables) (s : List ℕ) → Start n k → Healthy n k t → Fitting t → Bytes s → Healthy n k (tablesAfter t s)
+healthy-after n k t s z h w y = after-keeps (Healthy n k) n k t s z h w y h (settled-healthy z h)
 
-pub fitting-onward : (n k : ℕ) (t : Tables) (s : List ℕ) → Start n k → Healthy n k t → Fitting t → Bytes s → Fitting (tablesAfter t s)
-fitting-onward n k t s z h w y = onward-keeps Fitting n k t s z h w y w (settled-fitting k w)
+pub fitting-after : (n k : ℕ) (t : Tables) (s : List ℕ) → Start n k → Healthy n k t → Fitting t → Bytes s → Fitting (tablesAfter t s)
+fitting-after n k t s z h w y = after-keeps Fitting n k t s z h w y w (settled-fitting k w)
 
 -- ---- a run
 
@@ -151,7 +151,7 @@ pub healthy-through : (n k : ℕ) (ss : List (List ℕ)) (t : Tables) → Start 
 healthy-through n k [] t z h w r = (h, w)
 healthy-through n k (s ∷ ss) t z h w r =
     let y = r s (here refl) in
-    healthy-through n k ss (tablesAfter t s) z (healthy-onward n k t s z h w y) (fitting-onward n k t s z h w y) λ x m. r x (there m)
+    healthy-through n k ss (tablesAfter t s) z (healthy-after n k t s z h w y) (fitting-after n k t s z h w y) λ x m. r x (there m)
 
 pub healthy-reached : (n k : ℕ) (ss : List (List ℕ)) → Start n k → Run ss → Healthy n k (reached (startOf n k) ss)
 healthy-reached n k ss z r = healthy-through n k ss (startOf n k) z (healthy-start n k z) (fitting-start n k z) r .0

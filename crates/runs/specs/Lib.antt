@@ -6,7 +6,7 @@ pub mod Damage
 pub mod RunLaws
 pub mod LevelRuns
 pub mod OrderRuns
-pub mod Onward
+pub mod OneMessage
 pub mod SameSeen
 pub mod AlikeAsks
 pub mod Room

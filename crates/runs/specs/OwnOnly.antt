@@ -42,8 +42,8 @@ use Rattle.moves.specs.Altered.{altered-reference}
 use Rattle.runs.specs.Ledger.{line, takenAs, Line, linesOf, ofLevel}
 use Rattle.runs.specs.Ledger.Event.{added, closed}
 use Rattle.runs.specs.Statements.{Start, Healthy, Touches, Concerns, OnlyItsOwn}
-use Rattle.runs.specs.Healthy.{Fitting, healthy-onward}
-use Rattle.runs.specs.Onward.{step-unread, step-read, step-facts, step-moved}
+use Rattle.runs.specs.Healthy.{Fitting, healthy-after}
+use Rattle.runs.specs.OneMessage.{step-unread, step-read, step-facts, step-moved}
 use Rattle.runs.specs.SameSeen.{isOrder, is-other, seen-same}
 use Rattle.runs.specs.AlikeAsks.{order-seen, level-stands, level-same}
 
@@ -168,13 +168,13 @@ module _ (n k : ℕ) (t : Tables) (s : List ℕ) (z : Start n k) (h : Healthy n 
           (λ o y. q o (subst (λ (c : Outcome). Mentions (linesOf c) o) (sym p) y)) in
           omega (arith, m .took w, m .gave w, still .0, still .1)
 
-  onward-healthy : Healthy n k (tablesAfter t s)
-  onward-healthy = healthy-onward n k t s z h f bytes
+  after-healthy : Healthy n k (tablesAfter t s)
+  after-healthy = healthy-after n k t s z h f bytes
 
   accounts-stay : (r : ℕ) → (Concerns r (linesOf (answerTo t s)) → ⊥) → orderAsked (tablesAfter t s .book) r ≡ orderAsked (t .book) r
   accounts-stay r none =
-      order-seen z onward-healthy r
-      ∙ ap accounted (seen-same n k n k (tablesAfter t s) t r onward-healthy h λ o e.
+      order-seen z after-healthy r
+      ∙ ap accounted (seen-same n k n k (tablesAfter t s) t r after-healthy h λ o e.
       total-stays (isOrder o) λ o′ y. is-other o o′ λ q. none (y .by, y .among, y .reference ∙ q ∙ e))
       ∙ sym (order-seen z h r)
 
@@ -186,7 +186,7 @@ module _ (n k : ℕ) (t : Tables) (s : List ℕ) (z : Start n k) (h : Healthy n 
   level-stays : (l : ℕ) (side : Side) (p : ℕ) → (Touches l side p (linesOf (answerTo t s)) → ⊥)
       → levelOf (tablesAfter t s .book) l (sideByte side) p ≡ levelOf (t .book) l (sideByte side) p
   level-stays l side p none =
-      level-stands z onward-healthy l (sideByte side) p
+      level-stands z after-healthy l (sideByte side) p
       ∙ ap (λ (x : Level). cond (goodSide (sideByte side)) (Stands x) (noQuote FIELD))
       (read-back side stays)
       ∙ sym (level-stands z h l (sideByte side) p)

@@ -40,7 +40,7 @@ use Rattle.moves.specs.Moved.{moves}
 use Rattle.moves.specs.Reads.{lawful}
 use Rattle.runs.specs.Ledger.{Event, added, executed, cancelled, closed, Line, line, linesOf, ledger}
 use Rattle.runs.specs.Statements.{Run, Start, startOf, Healthy}
-use Rattle.runs.specs.Healthy.{Fitting, none-live, healthy-onward, fitting-onward, healthy-shaped, healthy-sized}
+use Rattle.runs.specs.Healthy.{Fitting, none-live, healthy-after, fitting-after, healthy-shaped, healthy-sized}
 
 -- ---- one message
 
@@ -88,7 +88,7 @@ over-run n k i R none one both (s ∷ ss) y t h g =
     let b = y s (here refl) in
     let u = tablesAfter t s in
     both (t .book) (u .book) (reached u ss .book) (linesOf (answerTo t s)) (ledger (said u ss)) (one t s h g b)
-    (over-run n k i R none one both ss (λ u m. y u (there m)) u (healthy-onward n k t s i h g b) (fitting-onward n k t s i h g b))
+    (over-run n k i R none one both ss (λ u m. y u (there m)) u (healthy-after n k t s i h g b) (fitting-after n k t s i h g b))
 
 -- nothing has weight in a book made fresh
 pub fresh-total : (w : Held → ℕ) (n k : ℕ) → total w (startOf n k .book) k ≡ 0

@@ -13,7 +13,8 @@ use Rattle.feed.proofs.feed.Tie as tie
 abbrev Inv-loop : tie.InvT-loop
 Inv-loop input directory₀ book₀ out₀ fed₀ directory book out fed =
     (length directory ≡ length directory₀) × (length book ≡ length book₀)
-    × Going input out₀ (record { directory = directory₀; book = book₀; tally = fed₀ .tally }) (record { fed = fed; directory = directory; book = book; out = out })
+    × Going input out₀ (record { tables = record { directory = directory₀; book = book₀ }; tally = fed₀ .tally })
+    (record { fed = fed; tables = record { directory = directory; book = book }; out = out })
 
 abbrev μ-loop : tie.MeasureT-loop
 μ-loop input directory₀ book₀ out₀ fed₀ directory book out fed = length input - fed .at
@@ -21,7 +22,7 @@ abbrev μ-loop : tie.MeasureT-loop
 loop-holds : tie.Need-loop-holds Inv-loop μ-loop
 loop-holds c =
     let a = c .before .before .before .before .args in
-    (refl, refl, start (a .input .now) (a .directory .now) (a .book .now) (a .out .now) (a .tally))
+    (refl, refl, start (a .input .now) (a .out .now) _)
 
 -- where the block stands that a turn takes
 there : (c : tie.After-known-told Inv-loop μ-loop)

@@ -8,7 +8,7 @@ use Rattle.feed.proofs.message.Tie as tie
 returns : tie.Need-returns
 returns c =
     let a = c .before .before .before .before .before .before .before .before .before .before .before .before .before .before .before .before .before .before .args in
-    let x : FeedLeaves = record { fed = a .fed; directory = a .directory .now; book = a .book .now; out = a .out .now } in
+    let x : FeedLeaves = record { fed = a .fed; tables = record { directory = a .directory .now; book = a .book .now }; out = a .out .now } in
     let p = c .before .before .before .tell .ensures in
     one _ _ x _ _ _ _ _ (c .before .before .before .before .before .before .before .before .before .before .apply .ensures)
     (c .before .before .before .before .before .number .ensures) (p .0) (p .1) (c .count .ensures)
