@@ -2,9 +2,9 @@
 -- failing exactly where its condition holds. And a sound order's account is its answer (`order-means`). Assumes nothing.
 use mathlib.Core.Path.{_≡_, refl, ap}
 use mathlib.Core.Logic.{inl, inr, _≢_}
-use mathlib.Core.Bool.{Bool, cond, _||_}
+use mathlib.Core.Bool.{Bool, true, cond, _||_}
 use mathlib.Core.List.{List}
-use Prim.Native.Nat.{ℕ, _+_, _<_}
+use Prim.Native.Nat.{ℕ, _<_}
 use native.Mathlib.Omega.{arith}
 use borrow.Author.Tests.{ne-eqb}
 use lib.Dec.{eqb}
@@ -26,7 +26,7 @@ use Rattle.levels.specs.declared.Quote.{Quote}
 use Rattle.levels.specs.declared.Quote.the-variants.{Stands}
 use Rattle.levels.specs.Totals.{total}
 use Rattle.levels.specs.TotalLaws.{total-none, some-total}
-use Rattle.levels.specs.Levels.{unsoundness, levelAt, ticksTo, standing, noQuote, checked, levelOf, bestOf, nextOf}
+use Rattle.levels.specs.Levels.{unsoundness, levelAt, bestWhere, better, noQuote, checked, levelOf, bestOf, nextOf}
 use Rattle.replies.specs.Replies.{accountNumber, quoteNumber, countNumber}
 use Rattle.apply_theorems.specs.Statements.{IsLive, Broken, IsOrder, first, done}
 use Rattle.apply_theorems.specs.Sights.{lowest-live, Sight, sight, order-unique, order-sound}
@@ -35,7 +35,7 @@ use Rattle.apply_theorems.specs.Earns.{Test, alike, differ, named-comes, one-of
 use Rattle.apply_theorems.specs.Earns.Test.{passes, fails}
 use Rattle.ask_theorems.specs.Statements.{Foul, OrderExactly, QuoteExactly, CountExactly}
 use Rattle.ask_theorems.specs.Books.{exactly-in}
-use Rattle.ask_theorems.specs.Cases.{standing-has}
+use Rattle.ask_theorems.specs.Cases.{where-has}
 
 -- ---- the order question: 14, 10, 13
 
@@ -108,20 +108,19 @@ pub level-exactly : (b : List ℕ) (l byte p : ℕ) → QuoteExactly b byte (lev
 unfolding levelOf
 level-exactly b l byte p = checked-exactly b byte (Stands (levelAt b (wordsOf (length b)) l (sideOf byte) p)) refl
 
--- the best level from a step on, or none
-from-exactly : (b : List ℕ) (l byte from : ℕ) → QuoteExactly b byte (checked b byte (standing b (wordsOf (length b)) l (sideOf byte) from))
-from-exactly b l byte from =
-    let k = wordsOf (length b) in
-    checked-exactly b byte (standing b k l (sideOf byte) from)
-    (standing-has (λ q. quoteNumber q ≡ 0) b k l (sideOf byte) from (λ h. refl) (λ h. refl))
+-- the best level of those that pass, or none
+where-exactly : (b : List ℕ) (l byte : ℕ) (test : ℕ → Bool)
+    → QuoteExactly b byte (checked b byte (bestWhere b (wordsOf (length b)) l (sideOf byte) test))
+where-exactly b l byte test =
+    checked-exactly b byte _ (where-has b (wordsOf (length b)) l (sideOf byte) test (λ q. quoteNumber q ≡ 0) (λ x. refl) refl)
 
 pub best-exactly : (b : List ℕ) (l byte : ℕ) → QuoteExactly b byte (bestOf b l byte)
 unfolding bestOf
-best-exactly b l byte = from-exactly b l byte 0
+best-exactly b l byte = where-exactly b l byte (λ p. true)
 
 pub next-exactly : (b : List ℕ) (l byte p : ℕ) → QuoteExactly b byte (nextOf b l byte p)
 unfolding nextOf
-next-exactly b l byte p = from-exactly b l byte (ticksTo (sideOf byte) p + 1)
+next-exactly b l byte p = where-exactly b l byte (better (sideOf byte) p)
 
 -- ---- the live count: 14
 

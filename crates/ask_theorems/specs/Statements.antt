@@ -2,6 +2,7 @@
 -- Exactly.antt and Quotes.antt prove it of the definitions. Assumes nothing.
 use mathlib.Core.Path.{_≡_}
 use mathlib.Core.Logic.{_↔_, _≢_}
+use mathlib.Core.Bool.{Bool, true, _&&_}
 use mathlib.Core.List.{List}
 use Prim.Native.Nat.{ℕ, _*_, _<_}
 use lib.ListN.{length}
@@ -16,8 +17,7 @@ use Rattle.levels.specs.declared.Level.{Level}
 use Rattle.levels.specs.declared.Quote.{Quote}
 use Rattle.levels.specs.declared.Quote.the-variants.{Nothing, Stands}
 use Rattle.levels.specs.Totals.{total}
-use Rattle.levels.specs.Levels.{sharesAt, ordersAt, levelOf, bestOf, nextOf, allPrices}
-use Rattle.levels.specs.Meaning.{Better}
+use Rattle.levels.specs.Levels.{sharesAt, ordersAt, allPrices, better, levelOf, bestOf, nextOf}
 use Rattle.replies.specs.Replies.{accountNumber, quoteNumber, countNumber}
 use Rattle.apply_theorems.specs.Statements.{IsLive, Broken, first, done}
 
@@ -67,19 +67,19 @@ pub record IsLevel (b : List ℕ) (k locate : ℕ) (side : Side) (l : Level) : T
   pub orders : l .orders ≡ total (ordersAt locate side (l .price)) b k
   pub some : 0 < l .orders
 
--- no order of the stock's side stands at a price of which P holds
-abbrev pub NoneWhere : List ℕ → ℕ → ℕ → Side → (ℕ → Type 0) → Type 0
-NoneWhere b k locate side P = (p : ℕ) → p < allPrices → P p → total (ordersAt locate side p) b k ≡ 0
+-- no order of the stock's side stands at a price that passes
+abbrev pub NoneWhere : List ℕ → ℕ → ℕ → Side → (ℕ → Bool) → Type 0
+NoneWhere b k locate side passes = (p : ℕ) → p < allPrices → passes p ≡ true → total (ordersAt locate side p) b k ≡ 0
 
 -- what a level given as the best says: it stands, and none stands at a better price; and none: none stands at any price
 pub record BestMeans (b : List ℕ) (k locate byte : ℕ) : Type 0 where
   pub stands : (l : Level) → bestOf b locate byte ≡ Stands l
-      → IsLevel b k locate (sideOf byte) l × NoneWhere b k locate (sideOf byte) (λ p. Better (sideOf byte) p (l .price))
-  pub none : bestOf b locate byte ≡ Nothing → NoneWhere b k locate (sideOf byte) (λ p. Unit {0})
+      → IsLevel b k locate (sideOf byte) l × NoneWhere b k locate (sideOf byte) (λ p. better (sideOf byte) p (l .price))
+  pub none : bestOf b locate byte ≡ Nothing → NoneWhere b k locate (sideOf byte) (λ p. true)
 
 -- what a level given as the next says: it stands at a worse price than the given one, and none stands between
 pub record NextMeans (b : List ℕ) (k locate byte price : ℕ) : Type 0 where
   pub stands : (l : Level) → nextOf b locate byte price ≡ Stands l
-      → IsLevel b k locate (sideOf byte) l × Better (sideOf byte) price (l .price)
-      × NoneWhere b k locate (sideOf byte) (λ p. Better (sideOf byte) price p × Better (sideOf byte) p (l .price))
-  pub none : nextOf b locate byte price ≡ Nothing → NoneWhere b k locate (sideOf byte) (λ p. Better (sideOf byte) price p)
+      → IsLevel b k locate (sideOf byte) l × (better (sideOf byte) price (l .price) ≡ true)
+      × NoneWhere b k locate (sideOf byte) (λ p. better (sideOf byte) price p && better (sideOf byte) p (l .price))
+  pub none : nextOf b locate byte price ≡ Nothing → NoneWhere b k locate (sideOf byte) (better (sideOf byte) price)

@@ -4,7 +4,7 @@ use mathlib.Core.Path.{_≡_, refl, sym, ap₂, _∙_}
 use mathlib.Core.Logic.{_≢_}
 use mathlib.Core.Bool.{Bool, true, false, cond}
 use mathlib.Core.List.{List}
-use Prim.Native.Nat.{ℕ, _+_}
+use Prim.Native.Nat.{ℕ}
 use native.Mathlib.Omega.{arith}
 use borrow.Author.Tests.{ne-eqb}
 use lib.Dec.{eqb}
@@ -21,11 +21,11 @@ use Rattle.census.specs.declared.Counted.the-variants as count
 use Rattle.census.specs.Census.{liveCount, countAsked}
 use Rattle.levels.specs.declared.Quote.{Quote}
 use Rattle.levels.specs.declared.Quote.the-variants as quote
-use Rattle.levels.specs.Levels.{levelAt, ticksTo, standing, noQuote, checked, levelOf, bestOf, nextOf}
+use Rattle.levels.specs.Levels.{levelAt, bestWhere, better, noQuote, checked, levelOf, bestOf, nextOf}
 use Rattle.replies.specs.Replies.{accountNumber, accountRow, quoteNumber, levelRow, quoteRow, countNumber, countRow}
 use Rattle.kinds.specs.SideLaws.{side-back}
 use Rattle.apply_theorems.specs.Unique.{side-some}
-use Rattle.ask_theorems.specs.Cases.{checked-has, standing-has}
+use Rattle.ask_theorems.specs.Cases.{checked-has, where-has}
 
 -- ---- the contracts
 
@@ -94,19 +94,18 @@ quote-back (quote.Stands l) n = refl
 pub quote-numbers-unique : (x y : Quote) → Numbered x → Numbered y → quoteNumber x ≡ quoteNumber y → quoteRow x ≡ quoteRow y → x ≡ y
 quote-numbers-unique x y n m = made quoteOf (quote-back x n) (quote-back y m)
 
-numbered-from : (b : List ℕ) (l byte from : ℕ) → Numbered (checked b byte (standing b (wordsOf (length b)) l (sideOf byte) from))
-numbered-from b l byte from =
-    let k = wordsOf (length b) in
-    checked-has Numbered b byte (standing b k l (sideOf byte) from) (λ n d. d)
-    (standing-has Numbered b k l (sideOf byte) from (λ h. tt) (λ h. tt))
+numbered-where : (b : List ℕ) (l byte : ℕ) (passes : ℕ → Bool)
+    → Numbered (checked b byte (bestWhere b (wordsOf (length b)) l (sideOf byte) passes))
+numbered-where b l byte passes =
+    checked-has Numbered b byte _ (λ n d. d) (where-has b (wordsOf (length b)) l (sideOf byte) passes Numbered (λ x. tt) tt)
 
 pub best-numbered : (b : List ℕ) (l byte : ℕ) → Numbered (bestOf b l byte)
 unfolding bestOf
-best-numbered b l byte = numbered-from b l byte 0
+best-numbered b l byte = numbered-where b l byte (λ p. true)
 
 pub next-numbered : (b : List ℕ) (l byte p : ℕ) → Numbered (nextOf b l byte p)
 unfolding nextOf
-next-numbered b l byte p = numbered-from b l byte (ticksTo (sideOf byte) p + 1)
+next-numbered b l byte p = numbered-where b l byte (better (sideOf byte) p)
 
 -- ---- the level of a price, which is no number of the answer
 

@@ -20,8 +20,9 @@ use Rattle.levels.specs.declared.Level.{Level}
 use Rattle.levels.specs.declared.Quote.{Quote}
 use Rattle.levels.specs.declared.Quote.the-variants.{Refused, Nothing, Stands}
 use Rattle.levels.specs.Totals.{total}
-use Rattle.levels.specs.Levels.{unsoundness, allPrices, priceAt, ticksTo, levelAt, standing, noQuote, checked}
-use Rattle.levels.specs.Meaning.{ticks-price}
+use Rattle.levels.specs.Levels.{unsoundness, allPrices, levelAt, noQuote, checked}
+use Rattle.levels.specs.Ticks.{priceAt, ticksTo, levelFrom}
+use Rattle.levels.specs.TickLaws.{ticks-price, from-first}
 use Rattle.ladders.specs.declared.Next.the-variants.{At, End}
 use Rattle.ladders.specs.Ladders.{firstOf, locateAt, sideAt, tickAt, levelThere, readable, firstRung}
 use Rattle.ladders.specs.Search.{onSide, sideAfter, quoteAt, nextFrom}
@@ -42,7 +43,7 @@ side-good Sell = refl
 
 -- the answer to what a side is asked by its letter is the rung's
 pub asks : (b : List ℕ) (p locate byte tick : ℕ) (r : Quote) → locate ≡ locateAt p → byte ≡ sideByte (sideAt p) → tick ≡ tickAt p
-    → r ≡ checked b byte (standing b (wordsOf (length b)) locate (sideOf byte) tick) → r ≡ quoteAt b p
+    → r ≡ checked b byte (levelFrom b (wordsOf (length b)) locate (sideOf byte) tick) → r ≡ quoteAt b p
 unfolding quoteAt
 asks b p locate byte tick r l y s e = rw (l, y, s) at e ∙ rw (side-back (sideAt p))
 
@@ -66,11 +67,11 @@ module _ (b : List ℕ) (p : ℕ) where
   levelOn = levelAt b (wordsOf (length b)) (locateAt p) (sideAt p) (priceAt (sideAt p) (tickOn b p))
 
   quote-says : (x : Quote) → quoteAt b p ≡ x → Says (readable b) (ltb (tickOn b p) allPrices) levelOn x
-  unfolding quoteAt readable standing
+  unfolding quoteAt readable
   quote-says x e =
       let k = wordsOf (length b) in
       subst (Says (cond (eqb k 0) false (eqb (total unsoundness b k) 0)) (ltb (tickOn b p) allPrices) levelOn) e
-      (rw (side-good (sideAt p)) (says (eqb k 0) (eqb (total unsoundness b k) 0) (ltb (tickOn b p) allPrices) levelOn))
+      (rw (side-good (sideAt p), from-first) (says (eqb k 0) (eqb (total unsoundness b k) 0) (ltb (tickOn b p) allPrices) levelOn))
 
 -- ---- the search
 

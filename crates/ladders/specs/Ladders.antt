@@ -11,7 +11,8 @@ use Rattle.kinds.specs.declared.Side.the-variants.{Buy, Sell}
 use Rattle.book.specs.Book.{wordsOf}
 use Rattle.levels.specs.declared.Level.{Level}
 use Rattle.levels.specs.Totals.{total}
-use Rattle.levels.specs.Levels.{unsoundness, allPrices, priceAt, someAt, levelAt}
+use Rattle.levels.specs.Levels.{unsoundness, allPrices, someAt, levelAt}
+use Rattle.levels.specs.Ticks.{priceAt}
 use Rattle.records.specs.Records.{levelRecord}
 use Rattle.ladders.specs.declared.Filled.{Filled}
 
@@ -39,7 +40,7 @@ levelThere b k p = levelAt b k (locateAt p) (sideAt p) (priceAt (sideAt p) (tick
 
 -- an order stands there
 unfoldable pub standsThere : List ℕ → ℕ → ℕ → Bool
-standsThere b k p = someAt b k (locateAt p) (sideAt p) (tickAt p)
+standsThere b k p = someAt b k (locateAt p) (sideAt p) (priceAt (sideAt p) (tickAt p))
 
 -- ---- records
 

@@ -14,8 +14,9 @@ use Rattle.laws.specs.Least.{least-is, least-le, least-none, least-at, least-ex
 use Rattle.laws.specs.Definitions.{least}
 use Rattle.kinds.specs.declared.Side.the-variants.{Buy, Sell}
 use Rattle.book.specs.Book.{wordsOf}
-use Rattle.levels.specs.Levels.{allPrices, someAt, firstTick}
-use Rattle.levels.specs.Meaning.{countAt, first-none, stands-first}
+use Rattle.levels.specs.Levels.{allPrices, someAt}
+use Rattle.levels.specs.Ticks.{priceAt, firstTick}
+use Rattle.levels.specs.TickLaws.{countAt, first-none, stands-first}
 use Rattle.ladders.specs.Ladders.{locateAt, sideAt, tickAt, standsThere, readable, firstRung}
 use Rattle.ladders.specs.Search.{onSide, sideAfter}
 
@@ -66,7 +67,7 @@ module _ (p r : ℕ) (e : r / allPrices ≡ p / allPrices) where
   pub same-side : sideAt r ≡ sideAt p
   same-side = ap (λ x. cond (eqb (x % 2) 0) Buy Sell) e
 
-  there : (b : List ℕ) (k : ℕ) → standsThere b k r ≡ someAt b k (locateAt p) (sideAt p) (tickAt r)
+  there : (b : List ℕ) (k : ℕ) → standsThere b k r ≡ someAt b k (locateAt p) (sideAt p) (priceAt (sideAt p) (tickAt r))
   unfolding standsThere
   there b k = rw (same-locate, same-side)
 
@@ -90,8 +91,8 @@ module _ (b : List ℕ) (p to : ℕ) (h : readable b ≡ true) where
       let r = onSide p (tickOn b p) in
       let same : r / allPrices ≡ p / allPrices = omega arith in
       let at : tickAt r ≡ tickOn b p = omega arith in
-      let here : standsThere b k r ≡ true = there p r same b k ∙ ap (someAt b k (locateAt p) (sideAt p)) at ∙ s .some in
-      let late : p ≤ r = omega (arith, s .late) in
+      let here : standsThere b k r ≡ true = there p r same b k ∙ ap (λ i. someAt b k (locateAt p) (sideAt p) (priceAt (sideAt p) i)) at ∙ s .1 in
+      let late : p ≤ r = omega (arith, s .0) in
       read b p to h
       ∙ least-is (test b p) to r (omega arith)
       (λ j n. ⊎-elim

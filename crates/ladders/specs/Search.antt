@@ -9,7 +9,8 @@ use Rattle.kinds.specs.Sides.{sideByte}
 use Rattle.book.specs.Book.{wordsOf}
 use Rattle.levels.specs.declared.Level.{Level}
 use Rattle.levels.specs.declared.Quote.{Quote}
-use Rattle.levels.specs.Levels.{allPrices, standing, checked}
+use Rattle.levels.specs.Levels.{allPrices, checked}
+use Rattle.levels.specs.Ticks.{levelFrom}
 use Rattle.ladders.specs.declared.Next.{Next}
 use Rattle.ladders.specs.declared.Next.the-variants.{At, End}
 use Rattle.ladders.specs.Ladders.{locateAt, sideAt, tickAt, levelThere, kindOf, levelled, firstRung}
@@ -23,7 +24,7 @@ sideAfter p = (p / allPrices + 1) * allPrices
 
 -- the best level of that side not before the rung
 unfoldable pub quoteAt : List ℕ → ℕ → Quote
-quoteAt b p = checked b (sideByte (sideAt p)) (standing b (wordsOf (length b)) (locateAt p) (sideAt p) (tickAt p))
+quoteAt b p = checked b (sideByte (sideAt p)) (levelFrom b (wordsOf (length b)) (locateAt p) (sideAt p) (tickAt p))
 
 unfoldable pub nextFrom : List ℕ → ℕ → ℕ → Next
 nextFrom b from to =

@@ -4,7 +4,7 @@ ghost use mathlib.Core.Path.{_≡_};
 ghost use Prim.Native.Nat.{_/_, _<_};
 ghost use lib.ListN.{length};
 ghost use Rattle.kinds.specs.Sides.{sideByte};
-ghost use Rattle.levels.specs.Levels.{ticksTo};
+ghost use Rattle.levels.specs.Ticks.{ticksTo};
 ghost use Rattle.records.specs.Append.{appended, reach};
 ghost use Rattle.ladders.specs.Ladders.{firstOf, kindOf, fillLeaves, shown, sideAt};
 ghost use Rattle.ladders.specs.Search.{nextFrom, onSide, quoteAt, recordRow};

@@ -18,7 +18,8 @@ use Rattle.orders.specs.OrderLaws.{held-fit, held-numbers}
 use Rattle.orders.specs.Soundness.{Passes, passes-held, fails-held}
 use Rattle.levels.specs.declared.Wanted.{Wanted}
 use Rattle.levels.specs.declared.Glimpse.the-variants as glimpse
-use Rattle.levels.specs.Levels.{sameSide, ticksTo}
+use Rattle.levels.specs.Levels.{sameSide}
+use Rattle.levels.specs.Ticks.{ticksTo}
 use Rattle.levels.specs.Visits.{isWanted}
 use Rattle.levels.specs.Glances.{matters, glanced, stockSide, Based, roomOf}
 

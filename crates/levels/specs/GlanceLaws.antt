@@ -13,7 +13,7 @@ use Rattle.levels.specs.declared.Wanted.{Wanted}
 use Rattle.levels.specs.declared.Best.{Best}
 use Rattle.levels.specs.declared.Pass.the-variants as pass
 use Rattle.levels.specs.declared.Glimpse.the-variants as glimpse
-use Rattle.levels.specs.Levels.{ticksTo}
+use Rattle.levels.specs.Ticks.{ticksTo}
 use Rattle.levels.specs.Visits.{isWanted, joined, considered, seen}
 use Rattle.levels.specs.Glances.{matters, glanced}
 

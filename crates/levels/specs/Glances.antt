@@ -13,7 +13,7 @@ use Rattle.orders.specs.Order.{remaining}
 use Rattle.levels.specs.declared.Wanted.{Wanted}
 use Rattle.levels.specs.declared.Glimpse.{Glimpse}
 use Rattle.levels.specs.declared.Glimpse.the-variants as glimpse
-use Rattle.levels.specs.Levels.{ticksTo}
+use Rattle.levels.specs.Ticks.{ticksTo}
 use Rattle.levels.specs.Visits.{isWanted}
 
 -- wanted, and no worse than the tick `most`

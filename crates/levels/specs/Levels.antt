@@ -1,10 +1,9 @@
 -- THE DEFINITION of the questions about levels (01, 'What the desk may ask'), over the orders and not over their slots: a level's
--- shares and orders are totals, and the best price is the first, from the best one possible on, at which an order stands.
--- Assumes nothing.
-use Prim.Native.Nat.{ℕ, _+_, _-_}
+-- shares and orders are totals, and the best price is the highest buy and the lowest sell. Assumes nothing.
+use Prim.Native.Nat.{ℕ, zero, suc}
 use mathlib.Core.Bool.{Bool, true, false, cond, _&&_}
 use mathlib.Core.List.{List}
-use lib.Dec.{eqb, leb, ltb}
+use lib.Dec.{eqb, ltb}
 use lib.ListN.{length}
 use Rattle.laws.specs.Definitions.{least}
 use Rattle.refusals.specs.Refusals.{BOOK, FIELD, SHAPE, refusalOf}
@@ -47,7 +46,7 @@ abbrev pub unsoundness : Held → ℕ
 unsoundness (Sound o) = 0
 unsoundness Unsound = 1
 
--- ---- a level, and the first that stands
+-- ---- a level, and the best that stands
 
 -- the level of a price, whether an order stands there or none: shares and orders are then 0
 unfoldable pub levelAt : List ℕ → ℕ → ℕ → Side → ℕ → Level
@@ -57,32 +56,32 @@ levelAt b k locate side price = record {
   orders = total (ordersAt locate side price) b k;
 }
 
+-- an order stands at the price
+unfoldable pub someAt : List ℕ → ℕ → ℕ → Side → ℕ → Bool
+someAt b k locate side price = ltb 0 (total (ordersAt locate side price) b k)
+
+-- the level of the highest price below n that passes, or none
+unfoldable pub highest : (ℕ → Bool) → (ℕ → Level) → ℕ → Quote
+highest passes level zero = Nothing
+highest passes level (suc n) = cond (passes n) (Stands (level n)) (highest passes level n)
+
+-- the level of the lowest price below n that passes, or none
+unfoldable pub lowest : (ℕ → Bool) → (ℕ → Level) → ℕ → Quote
+lowest passes level n = cond (ltb (least passes n) n) (Stands (level (least passes n))) Nothing
+
 -- all prices that 32 bits hold
 abbrev pub allPrices : ℕ
 allPrices = 4294967296
 
--- the price i ticks from the best one possible: the highest for buys, the lowest for sells
-abbrev pub priceAt : Side → ℕ → ℕ
-priceAt Buy i = 4294967295 - i
-priceAt Sell i = i
+-- of the prices that pass, the best level of a stock's side, or none: the highest buy, the lowest sell
+unfoldable pub bestWhere : List ℕ → ℕ → ℕ → Side → (ℕ → Bool) → Quote
+bestWhere b k locate Buy passes = highest (λ p. passes p && someAt b k locate Buy p) (levelAt b k locate Buy) allPrices
+bestWhere b k locate Sell passes = lowest (λ p. passes p && someAt b k locate Sell p) (levelAt b k locate Sell) allPrices
 
--- how many ticks a price is from the best one possible
-abbrev pub ticksTo : Side → ℕ → ℕ
-ticksTo Buy price = 4294967295 - price
-ticksTo Sell price = price
-
-unfoldable pub someAt : List ℕ → ℕ → ℕ → Side → ℕ → Bool
-someAt b k locate side i = ltb 0 (total (ordersAt locate side (priceAt side i)) b k)
-
--- the first tick not before `from` and below `to` at which an order stands; `to` where there is none
-unfoldable pub firstTick : List ℕ → ℕ → ℕ → Side → ℕ → ℕ → ℕ
-firstTick b k locate side from to = least (λ i. leb from i && someAt b k locate side i) to
-
--- the best level not before the tick `from`, or none
-unfoldable pub standing : List ℕ → ℕ → ℕ → Side → ℕ → Quote
-standing b k locate side from =
-    cond (ltb (firstTick b k locate side from allPrices) allPrices)
-    (Stands (levelAt b k locate side (priceAt side (firstTick b k locate side from allPrices)))) Nothing
+-- price p is better than q: higher for buys, lower for sells
+abbrev pub better : Side → ℕ → ℕ → Bool
+better Buy p q = ltb q p
+better Sell p q = ltb p q
 
 -- ---- the questions
 
@@ -99,10 +98,10 @@ checked b byte quote =
 unfoldable pub levelOf : List ℕ → ℕ → ℕ → ℕ → Quote
 levelOf b locate byte price = checked b byte (Stands (levelAt b (wordsOf (length b)) locate (sideOf byte) price))
 
--- the best level of a stock's side: the highest buy, the lowest sell
+-- the best level of a stock's side
 unfoldable pub bestOf : List ℕ → ℕ → ℕ → Quote
-bestOf b locate byte = checked b byte (standing b (wordsOf (length b)) locate (sideOf byte) 0)
+bestOf b locate byte = checked b byte (bestWhere b (wordsOf (length b)) locate (sideOf byte) (λ p. true))
 
 -- the next level worse than a price, which need not be a level itself
 unfoldable pub nextOf : List ℕ → ℕ → ℕ → ℕ → Quote
-nextOf b locate byte price = checked b byte (standing b (wordsOf (length b)) locate (sideOf byte) (ticksTo (sideOf byte) price + 1))
+nextOf b locate byte price = checked b byte (bestWhere b (wordsOf (length b)) locate (sideOf byte) (better (sideOf byte) price))

@@ -5,10 +5,11 @@ pub mod GlanceLaws
 pub mod Glances
 pub mod Letters
 pub mod Levels
-pub mod Meaning
 pub mod Seen
 pub mod Sweep
 pub mod Tally
+pub mod TickLaws
+pub mod Ticks
 pub mod TotalLaws
 pub mod Totals
 pub mod VisitLaws

@@ -21,9 +21,10 @@ use Rattle.levels.specs.declared.Best.{Best}
 use Rattle.levels.specs.declared.Pass.{Pass}
 use Rattle.levels.specs.declared.Pass.the-variants as pass
 use Rattle.levels.specs.Totals.{total}
-use Rattle.levels.specs.TotalLaws.{Whole, Kept, held-kept, total-ext, none-total}
-use Rattle.levels.specs.Levels.{sameSide, standsAt, sharesAt, ordersAt, unsoundness, allPrices, priceAt, ticksTo, firstTick}
-use Rattle.levels.specs.Meaning.{ticks-price, price-ticks, first-le, first-is, stands-first, stands-none, no-orders}
+use Rattle.levels.specs.TotalLaws.{Whole, Kept, held-kept, total-ext, total-none, none-total}
+use Rattle.levels.specs.Levels.{sameSide, standsAt, sharesAt, ordersAt, unsoundness, allPrices}
+use Rattle.levels.specs.Ticks.{priceAt, ticksTo, firstTick}
+use Rattle.levels.specs.TickLaws.{ticks-price, price-ticks, first-le, first-is, stands-first, stands-none}
 use Rattle.levels.specs.Visits.{isWanted, visited}
 use Rattle.levels.specs.Tally.{away, wantedAt, ofWanted, BestBy, wanted-inside, Sees, sees}
 use Rattle.levels.specs.Tally.Sees.{saw-unsound, saw-sound}
@@ -154,6 +155,21 @@ pass-seen w b k most z = go (whole-pass w b k)
 
 -- ---- one tick alone
 
+-- what comes to 0 though its weight is not 0 has failed its test, and comes to 0 by any weight
+unless : (t : Bool) (m n : ℕ) → 0 < m → cond t m 0 ≡ 0 → cond t n 0 ≡ 0
+unless true m n h e = absurd (omega arith)
+unless false m n h e = refl
+
+module _ (b : List ℕ) (k l : ℕ) (side : Side) (p : ℕ) where
+  -- a level without orders has no shares
+  pub no-orders : total (ordersAt l side p) b k ≡ 0 → total (sharesAt l side p) b k ≡ 0
+  no-orders e =
+      none-total (sharesAt l side p) b k λ s m a. go (heldAt b k s) (total-none (ordersAt l side p) b k e s m a)
+    where
+      go : (h : Held) → ordersAt l side p h ≡ 0 → sharesAt l side p h ≡ 0
+      go (Sound o) e = unless (standsAt l side p o) 1 (remaining o) (omega arith) e
+      go Unsound e = refl
+
 -- whether an order stands there or none
 pub one-tick : (w : Wanted) (b : List ℕ) (k p : ℕ) → p < allPrices → w .from ≡ ticksTo (w .side) p → w .to ≡ w .from + 1
     → (bestIn w b k .shares ≡ total (sharesAt (w .locate .0) (w .side) p) b k)
@@ -169,7 +185,7 @@ one-tick w b k p small start end = go (ltb (firstIn w b k) (w .to)) refl
     go true e =
         let m = ltb-true (firstIn w b k) (w .to) e in
         let f = stands-first b k (w .locate .0) (w .side) (w .from) (w .to) m in
-        let i : firstIn w b k ≡ w .from = omega (arith, f .late) in
+        let i : firstIn w b k ≡ w .from = omega (arith, f .0) in
         rw (i, back) (refl, refl)
     go false e =
         let m = ltb-false (firstIn w b k) (w .to) e in

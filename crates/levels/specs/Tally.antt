@@ -19,7 +19,8 @@ use Rattle.levels.specs.declared.Wanted.{Wanted}
 use Rattle.levels.specs.declared.Best.{Best}
 use Rattle.levels.specs.declared.Pass.{Pass}
 use Rattle.levels.specs.declared.Pass.the-variants as pass
-use Rattle.levels.specs.Levels.{sameSide, unsoundness, ticksTo}
+use Rattle.levels.specs.Levels.{sameSide, unsoundness}
+use Rattle.levels.specs.Ticks.{ticksTo}
 use Rattle.levels.specs.Totals.{weighed}
 use Rattle.levels.specs.TotalLaws.{live-cases, more-free, more-live}
 use Rattle.levels.specs.Visits.{isWanted, joined, considered, seen, visited}

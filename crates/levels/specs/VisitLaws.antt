@@ -19,7 +19,7 @@ use Rattle.levels.specs.declared.Wanted.{Wanted}
 use Rattle.levels.specs.declared.Best.{Best}
 use Rattle.levels.specs.declared.Pass.{Pass}
 use Rattle.levels.specs.declared.Pass.the-variants as pass
-use Rattle.levels.specs.Levels.{ticksTo}
+use Rattle.levels.specs.Ticks.{ticksTo}
 use Rattle.levels.specs.Visits.{isWanted, considered, seen, begun, visited}
 
 -- ---- slot by slot

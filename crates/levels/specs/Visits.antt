@@ -14,7 +14,8 @@ use Rattle.levels.specs.declared.Wanted.{Wanted}
 use Rattle.levels.specs.declared.Best.{Best}
 use Rattle.levels.specs.declared.Pass.{Pass}
 use Rattle.levels.specs.declared.Pass.the-variants as pass
-use Rattle.levels.specs.Levels.{sameSide, ticksTo}
+use Rattle.levels.specs.Levels.{sameSide}
+use Rattle.levels.specs.Ticks.{ticksTo}
 
 -- the order is of the stock and the side, and its price is not before `from` and below `to`
 abbrev pub isWanted : Wanted → Order → Bool

@@ -5,7 +5,7 @@ ghost use Prim.Native.Nat.{ℕ, _+_, _*_, _≤_, _<_, min};
 ghost use Rattle.book.specs.Shape.{Sized};
 ghost use Rattle.orders.specs.Order.{held};
 ghost use Rattle.slots.specs.Stored.{heldAt};
-ghost use Rattle.levels.specs.Levels.{ticksTo};
+ghost use Rattle.levels.specs.Ticks.{ticksTo};
 ghost use Rattle.levels.specs.Visits.{joined, visited};
 ghost use Rattle.levels.specs.Glances.{Based, glanced, lettered, roomOf};
 

@@ -5,7 +5,8 @@ ghost use Prim.Native.Nat.{_<_};
 ghost use lib.ListN.{length};
 ghost use Rattle.kinds.specs.Sides.{sideOf};
 ghost use Rattle.book.specs.Book.{wordsOf};
-ghost use Rattle.levels.specs.Levels.{bestOf, checked, levelOf, nextOf, priceAt, standing};
+ghost use Rattle.levels.specs.Levels.{bestOf, checked, levelOf, nextOf};
+ghost use Rattle.levels.specs.Ticks.{levelFrom, priceAt};
 ghost use Rattle.levels.specs.Asks.{scanned};
 ghost use Rattle.refusals.specs.Refusals.{refusalOf};
 use crate::Asked;
@@ -60,7 +61,7 @@ fn ask(book: &[u64], byte: u8, w: Wanted) -> Asked
 
 // The best level of a stock's side not before the tick `from`, counted from the best price possible.
 pub fn first_from(book: &[u64], locate: Locate, byte: u8, from: u64) -> Quote
-    ensures { λ r. ⌜ r ≡ checked (now (book .entry)) byte (standing (now (book .entry)) (wordsOf (length (now (book .entry)))) (locate .0) (sideOf byte) from) ⌝ }
+    ensures { λ r. ⌜ r ≡ checked (now (book .entry)) byte (levelFrom (now (book .entry)) (wordsOf (length (now (book .entry)))) (locate .0) (sideOf byte) from) ⌝ }
 {
     let side = Side::of(byte as u64);
     let scanned = ask(

@@ -1,17 +1,17 @@
 -- ALL QUESTIONS ARE ANSWERED ALIKE (`asks-alike`) by healthy books with the same orders: in a healthy book 13 and 14 are never given, and
 -- every answer is made of totals and of what is seen under a reference. Assumes nothing.
 use mathlib.Core.Path.{_≡_, sym, ap, _∙_}
-use mathlib.Core.Bool.{false, cond, _&&_}
+use mathlib.Core.Bool.{Bool, true, false, cond, _&&_}
 use mathlib.Core.List.{List}
-use Prim.Native.Nat.{ℕ, _+_, _*_}
+use Prim.Native.Nat.{ℕ, _*_}
 use native.Mathlib.Omega.{arith}
 use borrow.Author.Tests.{eq-eqb, ne-eqb}
-use lib.Dec.{eqb, leb, ltb}
+use lib.Dec.{eqb, ltb}
 use lib.ListN.{length}
-use Rattle.laws.specs.Least.{least-ext}
 use Rattle.laws.specs.Sum.{sum-ext}
 use Rattle.refusals.specs.Refusals.{FIELD}
 use Rattle.kinds.specs.declared.Side.{Side}
+use Rattle.kinds.specs.declared.Side.the-variants.{Buy, Sell}
 use Rattle.kinds.specs.Sides.{sideOf, goodSide}
 use Rattle.book.specs.Book.{live, find, wordsOf}
 use Rattle.slots.specs.Stored.{seenIn}
@@ -20,8 +20,8 @@ use Rattle.accounts.specs.Accounts.{accounted, orderAsked}
 use Rattle.census.specs.declared.Counted.the-variants.{Live}
 use Rattle.census.specs.Census.{liveCount, countAsked}
 use Rattle.levels.specs.declared.Quote.{Quote}
-use Rattle.levels.specs.declared.Quote.the-variants.{Nothing, Stands}
-use Rattle.levels.specs.Levels.{sharesAt, ordersAt, unsoundness, levelAt, allPrices, priceAt, ticksTo, someAt, firstTick, standing}
+use Rattle.levels.specs.declared.Quote.the-variants.{Stands}
+use Rattle.levels.specs.Levels.{sharesAt, ordersAt, unsoundness, levelAt, someAt, highest, lowest, allPrices, bestWhere, better}
 use Rattle.levels.specs.Levels.{noQuote, checked, levelOf, bestOf, nextOf}
 use Rattle.levels.specs.Totals.{weighed, total}
 use Rattle.runs.specs.Statements.{Start, Healthy, SameOrders, Alike, AskedAlike}
@@ -49,15 +49,6 @@ module _ {n k : ℕ} {t : Tables} (z : Start n k) (h : Healthy n k t) where
   unfolding levelOf
   level-stands l byte p = checked-side byte (λ i. Stands (levelAt (t .book) i l (sideOf byte) p))
 
-  best-stands : (l byte : ℕ) → bestOf (t .book) l byte ≡ cond (goodSide byte) (standing (t .book) k l (sideOf byte) 0) (noQuote FIELD)
-  unfolding bestOf
-  best-stands l byte = checked-side byte (λ i. standing (t .book) i l (sideOf byte) 0)
-
-  next-stands : (l byte p : ℕ)
-      → nextOf (t .book) l byte p ≡ cond (goodSide byte) (standing (t .book) k l (sideOf byte) (ticksTo (sideOf byte) p + 1)) (noQuote FIELD)
-  unfolding nextOf
-  next-stands l byte p = checked-side byte (λ i. standing (t .book) i l (sideOf byte) (ticksTo (sideOf byte) p + 1))
-
   count-live : countAsked (t .book) ≡ Live (liveCount (t .book) k)
   unfolding countAsked
   count-live = rw (words z h, some-words)
@@ -77,20 +68,13 @@ unfolding levelAt
 level-same b k c m l side p e f = λ i. record { price = p; shares = e i; orders = f i }
 
 module _ (b : List ℕ) (k : ℕ) (c : List ℕ) (m : ℕ) (same : SameOrders b k c m) where
-  first-same : (l : ℕ) (side : Side) (from to : ℕ) → firstTick b k l side from to ≡ firstTick c m l side from to
-  unfolding firstTick someAt
-  first-same l side from to =
-      least-ext (λ i. leb from i && someAt b k l side i) (λ i. leb from i && someAt c m l side i) to λ i h.
-      ap (λ (x : ℕ). leb from i && ltb 0 x) (same (ordersAt l side (priceAt side i)))
+  levels : (l : ℕ) (side : Side) (p : ℕ) → levelAt b k l side p ≡ levelAt c m l side p
+  levels l side p = level-same b k c m l side p (same (sharesAt l side p)) (same (ordersAt l side p))
 
-  standing-same : (l : ℕ) (side : Side) (from : ℕ) → standing b k l side from ≡ standing c m l side from
-  unfolding standing
-  standing-same l side from =
-      let e = first-same l side from allPrices in
-      λ i. cond (ltb (e i) allPrices) (Stands (levels (priceAt side (e i)) i)) Nothing
-    where
-      levels : (p : ℕ) → levelAt b k l side p ≡ levelAt c m l side p
-      levels p = level-same b k c m l side p (same (sharesAt l side p)) (same (ordersAt l side p))
+  where-same : (l : ℕ) (side : Side) (passes : ℕ → Bool) → bestWhere b k l side passes ≡ bestWhere c m l side passes
+  unfolding bestWhere someAt
+  where-same l Buy passes = λ i. highest (λ p. passes p && ltb 0 (same (ordersAt l Buy p) i)) (λ p. levels l Buy p i) allPrices
+  where-same l Sell passes = λ i. lowest (λ p. passes p && ltb 0 (same (ordersAt l Sell p) i)) (λ p. levels l Sell p i) allPrices
 
   pub count-same : liveCount b k ≡ liveCount c m
   count-same = count-total b k ∙ same (λ h. 1) ∙ sym (count-total c m)
@@ -101,20 +85,22 @@ pub alike-seen : {n k m : ℕ} {t u : Tables} → Alike n k m t u → (r : ℕ)
 alike-seen {n} {k} {m} {t} {u} a r = seen-same n k n m t u r (a .first) (a .second) (λ o e. a .orders _)
 
 pub asks-alike : (n k m : ℕ) (t u : Tables) → Start n k → Start n m → Alike n k m t u → AskedAlike (t .book) (u .book)
+unfolding bestOf nextOf
 asks-alike n k m t u z y a = record {
   order = λ r. order-seen z (a .first) r ∙ ap accounted (alike-seen a r) ∙ sym (order-seen y (a .second) r);
   level = λ l byte p.
       level-stands z (a .first) l byte p
-      ∙ ap (λ x. cond (goodSide byte) (Stands x) (noQuote FIELD))
-      (level-same (t .book) k (u .book) m l (sideOf byte) p (a .orders (sharesAt l (sideOf byte) p)) (a .orders (ordersAt l (sideOf byte) p)))
+      ∙ ap (λ x. cond (goodSide byte) (Stands x) (noQuote FIELD)) (levels (t .book) k (u .book) m (a .orders) l (sideOf byte) p)
       ∙ sym (level-stands y (a .second) l byte p);
-  best = λ l byte.
-      best-stands z (a .first) l byte
-      ∙ ap (λ x. cond (goodSide byte) x (noQuote FIELD)) (standing-same (t .book) k (u .book) m (a .orders) l (sideOf byte) 0)
-      ∙ sym (best-stands y (a .second) l byte);
-  next = λ l byte p.
-      next-stands z (a .first) l byte p
-      ∙ ap (λ x. cond (goodSide byte) x (noQuote FIELD)) (standing-same (t .book) k (u .book) m (a .orders) l (sideOf byte) (ticksTo (sideOf byte) p + 1))
-      ∙ sym (next-stands y (a .second) l byte p);
+  best = λ l byte. where-alike l byte (λ p. true);
+  next = λ l byte p. where-alike l byte (better (sideOf byte) p);
   count = count-live z (a .first) ∙ ap Live (count-same (t .book) k (u .book) m (a .orders)) ∙ sym (count-live y (a .second));
 }
+  where
+    where-alike : (l byte : ℕ) (passes : ℕ → Bool)
+        → checked (t .book) byte (bestWhere (t .book) (wordsOf (length (t .book))) l (sideOf byte) passes)
+        ≡ checked (u .book) byte (bestWhere (u .book) (wordsOf (length (u .book))) l (sideOf byte) passes)
+    where-alike l byte passes =
+        checked-side z (a .first) byte (λ i. bestWhere (t .book) i l (sideOf byte) passes)
+        ∙ ap (λ x. cond (goodSide byte) x (noQuote FIELD)) (where-same (t .book) k (u .book) m (a .orders) l (sideOf byte) passes)
+        ∙ sym (checked-side y (a .second) byte (λ i. bestWhere (u .book) i l (sideOf byte) passes))
