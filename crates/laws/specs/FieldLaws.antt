@@ -25,10 +25,6 @@ join s at m (suc n) =
     let p : field s at m * (256 ^ n * 256) ≡ field s at m * 256 ^ n * 256 = sym (mul-assoc (field s at m) (256 ^ n) 256) in
     rw (add-suc, pow-suc, p) (rw (ih, e) (omega arith))
 
--- two readings side by side are the reading of both
-pub field-joined : (s : List ℕ) (at m n a b : ℕ) → a ≡ field s at m → b ≡ field s (at + m) n → a * 256 ^ n + b ≡ field s at (m + n)
-field-joined s at m n a b p q = rw (p, q) (sym (join s at m n))
-
 -- a field of bytes fits its width
 pub field-lt : (s : List ℕ) (at w : ℕ) → ((i : ℕ) → getD s i 0 < 256) → field s at w < 256 ^ w
 unfolding field

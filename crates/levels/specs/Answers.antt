@@ -14,7 +14,7 @@ use Rattle.kinds.specs.Sides.{sideOf}
 use Rattle.book.specs.Book.{wordsOf}
 use Rattle.levels.specs.declared.Wanted.{Wanted}
 use Rattle.levels.specs.declared.Best.{Best}
-use Rattle.levels.specs.declared.Asked.the-variants as ask
+use Rattle.levels.specs.declared.Survey.the-variants as ask
 use Rattle.levels.specs.declared.Quote.the-variants as quote
 use Rattle.levels.specs.Levels.{levelAt, allPrices, checked, levelOf}
 use Rattle.levels.specs.Ticks.{priceAt, ticksTo, firstTick, levelFrom}

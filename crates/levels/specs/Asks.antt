@@ -16,8 +16,8 @@ use Rattle.levels.specs.declared.Wanted.{Wanted}
 use Rattle.levels.specs.declared.Best.{Best}
 use Rattle.levels.specs.declared.Pass.{Pass}
 use Rattle.levels.specs.declared.Pass.the-variants as pass
-use Rattle.levels.specs.declared.Asked.{Asked}
-use Rattle.levels.specs.declared.Asked.the-variants as ask
+use Rattle.levels.specs.declared.Survey.{Survey}
+use Rattle.levels.specs.declared.Survey.the-variants as ask
 use Rattle.levels.specs.declared.Quote.{Quote}
 use Rattle.levels.specs.declared.Quote.the-variants as quote
 use Rattle.levels.specs.Totals.{total}
@@ -25,18 +25,18 @@ use Rattle.levels.specs.Levels.{unsoundness, allPrices, noQuote, checked
 use Rattle.levels.specs.Visits.{visited}
 use Rattle.levels.specs.Seen.{bestIn, pass-unsound, pass-seen}
 
-abbrev pub refusing : ℕ → Asked
+abbrev pub refusing : ℕ → Survey
 refusing n = ask.Refused (refusalOf n)
 
-abbrev pub passReply : Pass → Asked
+abbrev pub passReply : Pass → Survey
 passReply pass.Unsound = refusing BOOK
 passReply (pass.Seen best) = ask.Answered best
 
 -- by the tests of the book and of the side
-abbrev asking : Bool → Bool → Pass → Asked
+abbrev asking : Bool → Bool → Pass → Survey
 asking t u p = cond t (refusing SHAPE) (cond u (passReply p) (refusing FIELD))
 
-unfoldable pub scanned : Wanted → List ℕ → ℕ → Asked
+unfoldable pub scanned : Wanted → List ℕ → ℕ → Survey
 scanned w b byte = asking (eqb (wordsOf (length b)) 0) (goodSide byte) (visited w b (wordsOf (length b)) (64 * wordsOf (length b)))
 
 -- ---- the ways that asking goes

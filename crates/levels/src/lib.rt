@@ -31,7 +31,7 @@ pub enum Quote {
 }
 
 // What a pass over a book that may be no book comes to: why it is refused, or the best price with what stands there.
-pub enum Asked {
+pub enum Survey {
     Refused(Refusal),
     Answered(Best),
 }

@@ -9,10 +9,10 @@ ghost use Rattle.levels.specs.Levels.{bestOf, checked, levelOf, nextOf};
 ghost use Rattle.levels.specs.Ticks.{levelFrom, priceAt};
 ghost use Rattle.levels.specs.Asks.{scanned};
 ghost use Rattle.refusals.specs.Refusals.{refusalOf};
-use crate::Asked;
 use crate::Level;
 use crate::Pass;
 use crate::Quote;
+use crate::Survey;
 use crate::Wanted;
 use crate::scan;
 use crate::ticks_to;
@@ -34,14 +34,14 @@ fn price_at(side: Side, ticks: u64) -> u32
     }
 }
 
-fn refuse(n: u8) -> Asked
-    ensures { λ r. ⌜ r ≡ Asked.Refused (refusalOf n) ⌝ }
+fn refuse(n: u8) -> Survey
+    ensures { λ r. ⌜ r ≡ Survey.Refused (refusalOf n) ⌝ }
 {
-    Asked::Refused(Refusal::of(n))
+    Survey::Refused(Refusal::of(n))
 }
 
 // The pass for a side that was given as a byte: 14, 4 and 13 in this order, or what it saw.
-fn ask(book: &[u64], byte: u8, w: Wanted) -> Asked
+fn ask(book: &[u64], byte: u8, w: Wanted) -> Survey
     ensures { λ r. ⌜ r ≡ scanned w (now (book .entry)) byte ⌝ }
 {
     let k = book::words_of(book.len());
@@ -56,7 +56,7 @@ fn ask(book: &[u64], byte: u8, w: Wanted) -> Asked
     let Pass::Seen(best) = pass else {
         return refuse(BOOK);
     };
-    Asked::Answered(best)
+    Survey::Answered(best)
 }
 
 // The best level of a stock's side not before the tick `from`, counted from the best price possible.
@@ -75,8 +75,8 @@ pub fn first_from(book: &[u64], locate: Locate, byte: u8, from: u64) -> Quote
         },
     );
     match scanned {
-        Asked::Refused(refusal) => Quote::Refused(refusal),
-        Asked::Answered(best) => {
+        Survey::Refused(refusal) => Quote::Refused(refusal),
+        Survey::Answered(best) => {
             let ticks = best.ticks;
             if ticks < 4294967296 {
                 Quote::Stands(Level {
@@ -108,8 +108,8 @@ pub fn level(book: &[u64], locate: Locate, side: u8, price: u32) -> Quote
         },
     );
     match scanned {
-        Asked::Refused(refusal) => Quote::Refused(refusal),
-        Asked::Answered(there) => Quote::Stands(Level {
+        Survey::Refused(refusal) => Quote::Refused(refusal),
+        Survey::Answered(there) => Quote::Stands(Level {
             price,
             shares: there.shares,
             orders: there.orders,
