@@ -1,4 +1,6 @@
 // The order question: the account of the order with a reference, or 14, 10 or 13. It is lent the book alone.
+#![tactic(auto)]
+
 ghost use Rattle.std.specs.Prelude.{◌≡◌, ◌+◌, ◌≤◌};
 ghost use Rattle.accounts.specs.Accounts.{account_of, order_asked};
 ghost use Rattle.refusals.specs.Refusals.{refusal_of};

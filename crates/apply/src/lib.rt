@@ -1,4 +1,6 @@
 // The public call over both tables: any bytes to the answer that 01 fixes, with the tables changed as 01 says or not at all.
+#![tactic(auto)]
+
 ghost use Rattle.std.specs.Prelude.{◌≡◌};
 ghost use Rattle.apply.specs.Apply.{applied, concluded};
 ghost use Rattle.refusals.specs.Refusals.{SHAPE, refusal_of};

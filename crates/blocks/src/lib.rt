@@ -1,4 +1,6 @@
 // A stream is split into blocks: a 2-byte big-endian length and that many bytes. It knows nothing of messages.
+#![tactic(auto)]
+
 ghost use Rattle.std.specs.Prelude.{◌≡◌};
 ghost use Rattle.blocks.specs.Blocks.{block_at};
 

@@ -1,5 +1,7 @@
 // The book's shape, its map and its slots: which slot is free, and what is stored. It knows nothing of messages, nor of what a
 // slot's four numbers mean.
+#![tactic(auto)]
+
 ghost use Rattle.std.specs.Prelude.{◌≡◌, ◌+◌, ◌*◌, ◌^◌, ◌<◌, length};
 ghost use Rattle.laws.specs.Definitions.{bit, clear_bit, set_bit, least};
 ghost use Rattle.book.specs.Book.{clear_slot, four, lowest_free, number_at, put_slot, words_of};

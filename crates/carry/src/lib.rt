@@ -1,5 +1,7 @@
 // The bytes of a stream that were read and are not used yet: they are moved to the front of their buffer, so that more can be read
 // behind them. It knows nothing of blocks.
+#![tactic(auto)]
+
 ghost use Rattle.std.specs.Prelude.{◌≡◌, ◌+◌, ◌-◌, ◌≤◌, length, take, drop, ◌++◌};
 ghost use Rattle.carry.specs.Carry.{between, carried, kept_length};
 

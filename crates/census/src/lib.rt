@@ -1,4 +1,6 @@
 // The live count: the one bits of the map's numbers, counted. It is lent the book alone, and nothing in a slot matters to it.
+#![tactic(auto)]
+
 ghost use Rattle.std.specs.Prelude.{◌≡◌};
 ghost use Rattle.book.specs.Shape.{Sized};
 ghost use Rattle.census.specs.Census.{count_asked, live_count};

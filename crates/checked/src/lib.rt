@@ -1,5 +1,7 @@
 // Fields read and checked: each call gives what stands at a place and the faults found in it. It knows the kinds of
 // fields, and no message.
+#![tactic(auto)]
+
 ghost use Rattle.std.specs.Prelude.{◌≡◌, ◌+◌, ◌≤◌, ◌*◌, length};
 ghost use Rattle.laws.specs.Bools.{fault};
 ghost use Rattle.kinds.specs.Sides.{good_side};

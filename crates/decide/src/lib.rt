@@ -1,5 +1,7 @@
 // What a message about an order comes to, from what is found: the verdict, and the figures of the orders it concerns. No slot is
 // named here. It holds the types of the answer and no table.
+#![tactic(auto)]
+
 ghost use Rattle.std.specs.Prelude.{◌≡◌};
 ghost use Rattle.decide.specs.Figured.{figures_of};
 ghost use Rattle.refusals.specs.Refusals.{refusal_of};

@@ -1,4 +1,6 @@
 // The directory of stocks: what stands at a locate, and registering a symbol there. It knows nothing of messages.
+#![tactic(auto)]
+
 ghost use Rattle.std.specs.Prelude.{◌≡◌, ◌<◌, length};
 ghost use Rattle.directory.specs.Directory.{entry_at, good_length, registered};
 

@@ -1,4 +1,6 @@
 // R: a symbol is registered at a locate, or the message is refused with 7 or 8. It knows nothing of the book.
+#![tactic(auto)]
+
 ghost use Rattle.decide.specs.Decide.{registering};
 ghost use Rattle.directory.specs.Directory.{entry_at};
 ghost use Rattle.enroll.specs.Enrolled.{Enrolled};

@@ -1,5 +1,7 @@
 // The replay program's blocks, applied and counted: a refused message leaves a record as it happens. It is lent what was read, both
 // tables, and a buffer for the records, and knows nothing of files.
+#![tactic(auto)]
+
 ghost use Rattle.std.specs.Prelude.{◌≡◌, length};
 ghost use Rattle.apply.specs.Apply.{number_of};
 ghost use Rattle.records.specs.Append.{appended, reach};

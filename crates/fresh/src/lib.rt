@@ -1,4 +1,6 @@
 // Making both tables fresh: all zero, or 14 and nothing changed.
+#![tactic(auto)]
+
 ghost use Rattle.std.specs.Prelude.{◌≡◌, length, replicate};
 ghost use Rattle.fresh.specs.Fresh.{MakesFresh};
 ghost use Rattle.refusals.specs.Refusals.{SHAPE, refusal_of};

@@ -1,4 +1,6 @@
 // The kinds of number that cannot be mixed, and the price with its bound. It knows nothing of messages or tables.
+#![tactic(auto)]
+
 ghost use Rattle.std.specs.Prelude.{◌≡◌, ◌≤◌};
 ghost use Rattle.kinds.specs.Admission.{admission};
 ghost use Rattle.kinds.specs.Sides.{good_side, side_byte, side_of};

@@ -1,5 +1,7 @@
 // The levels of a book as records: by rising locate, the buys and then the sells of each, best first; as many as a buffer holds, and
 // the rung to go on from. It is lent the book alone, and asks it one question a level.
+#![tactic(auto)]
+
 ghost use Rattle.std.specs.Prelude.{◌≡◌, ◌/◌, ◌<◌, length};
 ghost use Rattle.kinds.specs.Sides.{side_byte};
 ghost use Rattle.levels.specs.Ticks.{ticks_to};

@@ -1,4 +1,6 @@
 // The calls that a program in C or Rust links. Each has the contract of the call below it.
+#![tactic(auto)]
+
 ghost use Rattle.std.specs.Prelude.{◌≡◌};
 ghost use Rattle.accounts.specs.Accounts.{order_asked};
 ghost use Rattle.apply.specs.Apply.{applied};

@@ -1,5 +1,7 @@
 // The questions about levels: one pass over the live slots of the book, by map words, for the best price of those wanted. It is
 // lent the book alone.
+#![tactic(auto)]
+
 ghost use Rattle.std.specs.Prelude.{◌≡◌, ℕ, ◌+◌, ◌*◌, ◌<◌, ◌≤◌, min};
 ghost use Rattle.book.specs.Shape.{Sized};
 ghost use Rattle.orders.specs.Order.{held};

@@ -1,5 +1,7 @@
 // The messages of TotalView-ITCH 5.0 as types: one struct a kind, with the fields and names of document 000, and the answer
 // to a message that is read. It knows nothing of bytes or tables, and holds no code.
+#![tactic(auto)]
+
 use kinds::{Locate, Price, Reference, Side};
 use refusals::Refusal;
 

@@ -1,5 +1,7 @@
 // An answer as numbers that another language can read: 01's number, and 18 numbers, of which the first is the type byte and
 // the others are the fields after it in the order of document 000, with 0 behind the last.
+#![tactic(auto)]
+
 ghost use Rattle.std.specs.Prelude.{◌≡◌};
 ghost use Rattle.numbers.specs.Shown.{answer_number, answer_row, message_row};
 

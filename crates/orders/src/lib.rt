@@ -1,4 +1,6 @@
 // An order, the steps of its life by value, and the four numbers of a slot that hold it. It knows nothing of the book.
+#![tactic(auto)]
+
 ghost use Rattle.std.specs.Prelude.{◌≡◌, ◌+◌, ◌≤◌, ◌<◌};
 ghost use Rattle.laws.specs.Bools.{fault};
 ghost use Rattle.text.specs.Text.{text};

@@ -1,6 +1,8 @@
 // An outcome as numbers that another language can read: 01's number, the 18 numbers of its message as reading gives them, and
 // ten figures: of the order that the message concerns its locate, side, price, shares taken or put and what then remains, and for
 // U the same of the order that starts.
+#![tactic(auto)]
+
 ghost use Rattle.std.specs.Prelude.{[], ◌≡◌};
 ghost use Rattle.apply.specs.Apply.{number_of};
 ghost use Rattle.numbers.specs.Shown.{padded};

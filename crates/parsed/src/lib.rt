@@ -1,4 +1,6 @@
 // A message read but not yet judged: what its fields hold, and their faults, added up. It knows no layout.
+#![tactic(auto)]
+
 ghost use Rattle.std.specs.Prelude.{◌≡◌};
 ghost use Rattle.parsed.specs.Parsed.{answer_of};
 

@@ -1,4 +1,6 @@
 // A and F: an order starts its life in the lowest free slot, or the message is refused with 7, 8, 9 or 12.
+#![tactic(auto)]
+
 ghost use Rattle.book.specs.Book.{lowest_free};
 ghost use Rattle.book.specs.Shape.{Sized};
 ghost use Rattle.decide.specs.Decide.{placing};

@@ -1,5 +1,7 @@
 // The seven messages that move orders: A, F, E, C, X, D, U. Each is read at fixed offsets and checked,
 // and proved against its row of the table of fields. Plain fields are read first, which keeps what is checked in the prover's reach.
+#![tactic(auto)]
+
 ghost use Rattle.std.specs.Prelude.{◌≡◌, length};
 ghost use Rattle.parsed.specs.Parsed.{IsParsed};
 

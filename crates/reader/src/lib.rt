@@ -1,4 +1,6 @@
 // Reading a message: any bytes to its typed fields, or to one of the refusals 1 to 6. It is lent the bytes and nothing else.
+#![tactic(auto)]
+
 ghost use Rattle.std.specs.Prelude.{◌≡◌, ◌<◌, length};
 ghost use Rattle.layout.specs.Layout.{length_of};
 ghost use Rattle.reader.specs.Read.{answer, judged_as, no_message};

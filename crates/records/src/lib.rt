@@ -1,5 +1,7 @@
 // The layout of each record that the replay program writes, and a record put behind those that stand in a buffer.
 // Each number's part of a record is lent on to one big-endian store; the kind is written last.
+#![tactic(auto)]
+
 ghost use Rattle.std.specs.Prelude.{◌≡◌};
 ghost use Rattle.records.specs.Records.{level_record, refusal_record, tally_record};
 ghost use Rattle.records.specs.Append.{appended, reach};

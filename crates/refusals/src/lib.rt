@@ -1,4 +1,6 @@
 // The refusals of 01 by name, and the one place where a refusal is made. It knows nothing of what is refused.
+#![tactic(auto)]
+
 ghost use Rattle.std.specs.Prelude.{◌≡◌};
 ghost use Rattle.refusals.specs.Refusals.{refusal_of};
 

@@ -1,5 +1,7 @@
 // U: an order ends its life and another starts under a new reference, in the lowest slot that is then free; or the message is
 // refused with 10, 13, 8 or 9, and never because the book is full. Who searches for the original is not known here.
+#![tactic(auto)]
+
 ghost use Rattle.std.specs.Prelude.{◌≡◌, ◌*◌, ◌<◌};
 ghost use Rattle.book.specs.Finds.{Within};
 ghost use Rattle.book.specs.Shape.{Sized};

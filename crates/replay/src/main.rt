@@ -1,5 +1,7 @@
 // The replay program: blocks on standard input, records on standard output. What is done with the bytes is in feed, carry, ladders and
 // records; here they are only read, handed over and written.
+#![tactic(auto)]
+
 use feed::Tally;
 use libc::{STDIN_FILENO, STDOUT_FILENO};
 

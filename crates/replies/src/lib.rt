@@ -1,5 +1,7 @@
 // The answers to the desk's questions as numbers that another language can read: the result is 01's number, and the values are
 // left in out, all 0 for a refusal.
+#![tactic(auto)]
+
 ghost use Rattle.std.specs.Prelude.{◌≡◌};
 ghost use Rattle.accounts.specs.declared.Accounted.TheVariants as accounted;
 ghost use Rattle.replies.specs.Replies.{account_number, account_row, count_number, count_row, level_row, quote_number, quote_row};

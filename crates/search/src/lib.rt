@@ -1,4 +1,6 @@
 // Where an order is: the lowest live slot that holds a reference, by map words. It knows nothing of messages.
+#![tactic(auto)]
+
 ghost use Rattle.std.specs.Prelude.{◌≡◌, false, ℕ, ◌+◌, ◌≤◌, ◌<◌, length};
 ghost use Rattle.laws.specs.Definitions.{least};
 ghost use Rattle.book.specs.Book.{find};

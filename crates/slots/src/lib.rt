@@ -1,4 +1,6 @@
 // Orders in the slots of a book: what a slot holds, an order put into one, and the order that a message concerns.
+#![tactic(auto)]
+
 ghost use Rattle.std.specs.Prelude.{◌≡◌, ◌*◌, ◌<◌};
 ghost use Rattle.book.specs.Shape.{Sized};
 ghost use Rattle.book.specs.Finds.{Within};

@@ -1,5 +1,7 @@
 // What each of the 23 messages does to tables of good shapes: R to the directory, A, F, E, C, X, D and U to the book, the others
 // to neither.
+#![tactic(auto)]
+
 ghost use Rattle.std.specs.Prelude.{◌≡◌};
 ghost use Rattle.book.specs.Shape.{Sized};
 ghost use Rattle.messages.specs.declared.Message.TheVariants as message;

@@ -1,4 +1,6 @@
 // One big-endian store: a number into the whole of the part that is lent. It knows nothing of records.
+#![tactic(auto)]
+
 ghost use Rattle.std.specs.Prelude.{◌≡◌, length};
 ghost use Rattle.store.specs.Store.{big_endian};
 

@@ -1,4 +1,6 @@
 // The symbol question: a message's unpadded symbol as a part of the message, after comparison with the directory.
+#![tactic(auto)]
+
 ghost use Rattle.std.specs.Prelude.{◌≡◌};
 ghost use Rattle.reader.specs.Read.{answer};
 ghost use Rattle.directory.specs.Directory.{entry_at, is_symbol};

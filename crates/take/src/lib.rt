@@ -1,5 +1,7 @@
 // E, C, X and D: shares are taken from an order, or all that remains is closed, or the message is refused with 10, 13, 8 or 11. Who
 // searches for the order is not known here.
+#![tactic(auto)]
+
 ghost use Rattle.std.specs.Prelude.{◌≡◌, ◌+◌, ◌*◌, ◌≤◌, ◌<◌};
 ghost use Rattle.book.specs.Finds.{Within};
 ghost use Rattle.book.specs.Shape.{Sized};

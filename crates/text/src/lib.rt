@@ -1,5 +1,7 @@
 // Whether 4 or 8 bytes, read as one big-endian number, are a text, a whole number at a time: no loop over the bytes.
 // It knows nothing of messages.
+#![tactic(auto)]
+
 ghost use Rattle.std.specs.Prelude.{◌≡◌, ◌≤◌};
 ghost use Rattle.laws.specs.Bools.{fault};
 ghost use Rattle.text.specs.Text.{text};

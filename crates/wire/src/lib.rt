@@ -1,5 +1,7 @@
 // Big-endian fields of 1, 2, 4, 6 and 8 bytes, each read where it stands. Two or four bytes are added up with the first as the least,
 // which compiles to one load, and then turned round, which compiles to one byte swap. It knows nothing of messages.
+#![tactic(auto)]
+
 ghost use Rattle.std.specs.Prelude.{◌≡◌, ◌+◌, ◌*◌, ◌≤◌, ◌<◌, length, get_or};
 ghost use Rattle.laws.specs.Field.{field};
 
