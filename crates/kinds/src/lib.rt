@@ -65,6 +65,7 @@ impl Price {
     pub const MAX: u32 = 2_000_000_000;
 
     // The price n, or its refusal where n is above the maximum.
+    #[tactic(auto, unfolding(crate::specs::Admission::admission, crate::specs::Admission::maximum))]
     pub fn admit(n: u32) -> Admission
         ensures { result ≡ admission n }
     {
