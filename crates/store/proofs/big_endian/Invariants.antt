@@ -1,0 +1,16 @@
+-- The loop goes from the last byte to the first: what is to stand is the bytes of the rest of the number, and then what stands from i on.
+use mathlib.Core.Path.{◌≡◌, refl, sym, ap, ◌∙◌}
+use mathlib.Core.List.{◌++◌}
+use native.Mathlib.Omega.{arith}
+use Prim.Native.Nat.{ℕ, ◌+◌, ◌-◌, ◌%◌, ◌≤◌}
+use lib.ListN.{length, drop, length-set}
+use Rattle.store.specs.Store.{big_endian}
+use Rattle.store.proofs.Laws.{begin, more}
+use Rattle.store.proofs.big_endian.Given as goal
+
+abbrev pub invariant-loop-i : goal.invariant-loop-i
+invariant-loop-i l =
+    (l.i ≤ length l.initial.part) × ((length l.part ≡ length l.initial.part) × (big_endian (length l.initial.part) l.value ≡ big_endian l.i l.rest ++ drop l.i l.part))
+
+abbrev pub decreases-loop-i : goal.decreases-loop-i
+decreases-loop-i l = l.i
