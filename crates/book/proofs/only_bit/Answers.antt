@@ -4,14 +4,7 @@ use Prim.Native.Nat.{ℕ, ◌%◌, ◌^◌}
 use native.Mathlib.Nat.{one-mul, mod-eq_of_lt}
 use lib.Pow.{pow-lt}
 use borrow.Author.Rules.{rules}
-use Rattle.book.proofs.only_bit.Statement.{statement}
-use Rattle.book.proofs.only_bit.Tie as tie
+use Rattle.book.proofs.only_bit.Goals as goal
 
-shl-result : tie.Need-overflow-shl-result
-shl-result c = search rules
-
-returns : tie.Need-returns
+pub returns : goal.returns
 returns c = ap (λ (x : ℕ). x % 2 ^ 64) (one-mul (2 ^ c.args.i)) ∙ mod-eq_of_lt (pow-lt c.requires)
-
-pub only-bit-spec : {M : Type 1} → statement M
-only-bit-spec = tie.close (tie.spec shl-result returns)

@@ -1,0 +1,18 @@
+-- `book::free_in` meets its contract. The loop's invariant, `Halved`: rest is w without its lowest i bits, none of which is 0.
+use Prim.Native.Nat.{◌-◌}
+use borrow.Author.Rules.{rules}
+use native.Mathlib.Omega.{arith}
+use Rattle.book.specs.Words.{Halved, word_whole, half, zero_at, no_zero}
+use Rattle.book.proofs.free_in.Goals as goal
+
+pub loop-i-init : goal.loop-i-init
+loop-i-init c = word_whole _
+
+pub returns-then-rest-eq0 : goal.returns-then-rest-eq0
+returns-then-rest-eq0 c = zero_at _ _ _ c.loop-i.invariant c.loop-i-test.true (omega (arith, c.if-rest-eq0.true))
+
+pub loop-i-preserved : goal.loop-i-preserved
+loop-i-preserved c = half _ _ _ c.loop-i.invariant c.loop-i-test.true c.if-rest-eq0.false
+
+pub returns : goal.returns
+returns c = no_zero _ _ _ c.loop-i.invariant c.loop-i-test.false

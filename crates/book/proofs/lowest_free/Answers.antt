@@ -1,0 +1,28 @@
+-- `book::lowest_free` meets its contract. The loop's invariant: no slot of the map numbers below j is free. The measure is what is
+use Prim.Native.Nat.{ℕ, ◌-◌, ◌*◌, ◌≤◌, ◌<◌}
+use mathlib.Core.Path.{◌≡◌}
+use mathlib.Core.Bool.{false}
+use native.Mathlib.Nat.{not-suc-le-zero}
+use native.Mathlib.Omega.{arith}
+use borrow.Author.Rules.{rules}
+use Rattle.book.specs.Book.{is_free}
+use Rattle.book.specs.Finds.{free_none}
+use Rattle.book.specs.Words.{free_word_at, free_word_more}
+use Rattle.book.proofs.lowest_free.Goals as goal
+
+pub loop-j-init : goal.loop-j-init
+loop-j-init c = (search rules, λ i l. absurd (not-suc-le-zero l))
+
+pub returns-then-i-lt64 : goal.returns-then-i-lt64
+returns-then-i-lt64 c =
+    free_word_at _ _ _ _ c.loop-j-test.true c.loop-j.invariant.1 c.free_in-i.ensures
+    c.if-i-lt64.true
+
+pub loop-j-preserved : goal.loop-j-preserved
+loop-j-preserved c = (
+  search rules,
+  free_word_more _ _ _ c.loop-j.invariant.1 c.free_in-i.ensures c.if-i-lt64.false,
+)
+
+pub returns : goal.returns
+returns c = free_none _ _ (λ i l. c.loop-j.invariant.1 i (omega arith))

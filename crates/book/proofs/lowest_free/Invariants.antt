@@ -1,0 +1,17 @@
+-- `book::lowest_free` meets its contract. The loop's invariant: no slot of the map numbers below j is free. The measure is what is
+use Prim.Native.Nat.{ℕ, ◌-◌, ◌*◌, ◌≤◌, ◌<◌}
+use mathlib.Core.Path.{◌≡◌}
+use mathlib.Core.Bool.{false}
+use native.Mathlib.Nat.{not-suc-le-zero}
+use native.Mathlib.Omega.{arith}
+use borrow.Author.Rules.{rules}
+use Rattle.book.specs.Book.{is_free}
+use Rattle.book.specs.Finds.{free_none}
+use Rattle.book.specs.Words.{free_word_at, free_word_more}
+use Rattle.book.proofs.lowest_free.Given as goal
+
+abbrev pub invariant-loop-j : goal.invariant-loop-j
+invariant-loop-j l = (l.j ≤ l.k) × ((i : ℕ) → i < 64 * l.j → is_free l.book i ≡ false)
+
+abbrev pub decreases-loop-j : goal.decreases-loop-j
+decreases-loop-j l = l.k - l.j
