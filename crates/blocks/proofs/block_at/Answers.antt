@@ -9,8 +9,7 @@ use Rattle.laws.specs.Field.{field}
 use Rattle.blocks.specs.declared.Block.TheVariants.{Whole, Part}
 use Rattle.blocks.specs.Blocks.{block_at}
 use Rattle.blocks.specs.BlockLaws.{is_whole, not_whole, promised_at, at_whole, at_part}
-use Rattle.blocks.proofs.block_at.Statement.{statement}
-use Rattle.blocks.proofs.block_at.Tie as tie
+use Rattle.blocks.proofs.block_at.Goals as goal
 
 part : (s : List ℕ) (at : ℕ) → length s - at < 2 + field s at 2 → Part ≡ block_at s at
 part s at l = sym (at_part s at (not_whole (drop at s) (omega (arith, length-drop at s, promised_at s at))))
@@ -20,19 +19,14 @@ whole s at n e l =
     let p = promised_at s at in
     ap (λ (k : ℕ). Whole (at + 2) (at + 2 + k)) (e ∙ sym p) ∙ sym (at_whole s at (is_whole (drop at s) (omega (arith, length-drop at s))))
 
-returns : tie.Need-returns
-returns c = let a = c.before.before.args in part a.s.now a.at (omega arith)
+pub returns-then-at-s : goal.returns-then-at-s
+returns-then-at-s c = let a = c.args in part a.s.now a.at (omega arith)
 
-returns-2 : tie.Need-returns-2
-returns-2 c = let a = c.before.before.before.args in part a.s.now a.at (omega arith)
+pub returns-then-left-lt2 : goal.returns-then-left-lt2
+returns-then-left-lt2 c = let a = c.args in part a.s.now a.at (omega arith)
 
-returns-3 : tie.Need-returns-3
-returns-3 c = let a = c.before.before.before.before.before.args in part a.s.now a.at (omega arith)
+pub returns-then-left-promised : goal.returns-then-left-promised
+returns-then-left-promised c = let a = c.args in part a.s.now a.at (omega arith)
 
-returns-4 : tie.Need-returns-4
-returns-4 c = let a = c.before.before.before.before.before.args in whole a.s.now a.at _ c.before.u16-at.ensures (omega arith)
-
-pub block-at-spec : {M : Type 1} → statement M
-block-at-spec =
-    tie.close
-    (tie.spec returns (λ c. search rules) returns-2 (λ c κs. search rules) (λ c. search rules) returns-3 (λ c. search rules) (λ c. search rules) (λ c. search rules) returns-4)
+pub returns : goal.returns
+returns c = let a = c.args in whole a.s.now a.at _ c.u16_at-promised.ensures (omega arith)

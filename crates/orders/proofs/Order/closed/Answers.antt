@@ -5,8 +5,7 @@ use native.Mathlib.Omega.{arith}
 use borrow.Author.Rules.{rules}
 use Rattle.orders.specs.declared.Order.{Order}
 use Rattle.orders.specs.Order.{remaining, closed_of}
-use Rattle.orders.proofs.Order.closed.Statement.{statement}
-use Rattle.orders.proofs.Order.closed.Tie as tie
+use Rattle.orders.proofs.Order.closed.Goals as goal
 
 all_closed : (o : Order) (n : ℕ) → n ≡ o.closed + remaining o
     → ◌≡◌ {A = Order} (record {
@@ -23,9 +22,6 @@ all_closed : (o : Order) (n : ℕ) → n ≡ o.closed + remaining o
 unfolding closed_of
 all_closed o n e = rw e
 
-returns : tie.Need-returns
+pub returns : goal.returns
 unfolding remaining
-returns c = all_closed c.before.before.args.self _ (omega arith)
-
-pub closed-spec : {M : Type 1} → statement M
-closed-spec = tie.close (tie.spec (λ c. search rules) (λ c. search rules) returns)
+returns c = all_closed c.args.self _ (omega arith)

@@ -1,0 +1,17 @@
+-- `search::find` meets its contract. The loop's invariant: no slot of the map numbers below j is live and holds `want`.
+use Prim.Native.Nat.{ℕ, ◌*◌, ◌-◌, ◌≤◌, ◌<◌}
+use mathlib.Core.Path.{◌≡◌}
+use mathlib.Core.Bool.{false}
+use native.Mathlib.Nat.{not-suc-le-zero}
+use native.Mathlib.Omega.{arith}
+use borrow.Author.Rules.{rules}
+use Rattle.book.specs.Book.{holds}
+use Rattle.book.specs.Finds.{find_none}
+use Rattle.book.specs.Words.{word_at, word_more}
+use Rattle.search.proofs.find.Given as goal
+
+abbrev pub invariant-loop-j : goal.invariant-loop-j
+invariant-loop-j l = (l.j ≤ l.k) × ((i : ℕ) → i < 64 * l.j → holds l.book l.k l.want i ≡ false)
+
+abbrev pub decreases-loop-j : goal.decreases-loop-j
+decreases-loop-j l = l.k - l.j

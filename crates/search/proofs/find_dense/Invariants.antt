@@ -1,0 +1,16 @@
+-- `search::find_dense` meets its contract. The loop's invariant: i is a multiple of 8, and no slot of the map number below i is live
+use Prim.Native.Nat.{ℕ, ◌-◌, ◌%◌, ◌≤◌, ◌<◌}
+use mathlib.Core.Path.{◌≡◌}
+use mathlib.Core.Bool.{false}
+use native.Mathlib.Omega.{arith}
+use borrow.Author.Rules.{rules}
+use borrow.Author.Count.{below_none}
+use Rattle.book.specs.Eights.{eight_more}
+use Rattle.book.specs.Words.{in_word, word_none}
+use Rattle.search.proofs.find_dense.Given as goal
+
+abbrev pub invariant-loop-i : goal.invariant-loop-i
+invariant-loop-i l = (l.i ≤ 64) × (l.i % 8 ≡ 0) × ((t : ℕ) → t < l.i → in_word l.book l.k l.want l.j t ≡ false)
+
+abbrev pub decreases-loop-i : goal.decreases-loop-i
+decreases-loop-i l = 64 - l.i

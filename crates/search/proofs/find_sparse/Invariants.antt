@@ -1,0 +1,14 @@
+-- `search::find_sparse` meets its contract. The loop's invariant, `Scan`: m is the map number with the bits taken off that have
+use native.Mathlib.Omega.{arith}
+use borrow.Author.Rules.{rules}
+use lib.Count.{trailing_le}
+use lib.ListN.{get_or}
+use Rattle.book.specs.Scan as scan
+use Rattle.book.specs.Words.{in_word, in_dead, in_other, in_yes}
+use Rattle.search.proofs.find_sparse.Given as goal
+
+abbrev pub invariant-loop-m : goal.invariant-loop-m
+invariant-loop-m l = scan.Scan (in_word l.book l.k l.want l.j) (get_or l.book l.j 0) l.m
+
+abbrev pub decreases-loop-m : goal.decreases-loop-m
+decreases-loop-m l = l.m
