@@ -6,22 +6,22 @@ ghost use Rattle.kinds.specs.Admission.{admission};
 ghost use Rattle.kinds.specs.Sides.{good_side, side_byte, side_of};
 
 // A stock's locate code.
-#[derive(Drop)]
+#[derive(Clone, Copy)]
 pub struct Locate(pub u16);
 
 // An order's reference number.
-#[derive(Drop)]
+#[derive(Clone, Copy)]
 pub struct Reference(pub u64);
 
 // A place for an order in the book.
-#[derive(Drop)]
+#[derive(Clone, Copy)]
 pub struct Slot(pub usize);
 
 // A Price (4): an amount of money in ten-thousandths.
-#[derive(Drop)]
+#[derive(Clone, Copy)]
 pub struct Price(pub u32);
 
-#[derive(Drop)]
+#[derive(Clone, Copy)]
 pub enum Side {
     Buy,
     Sell,

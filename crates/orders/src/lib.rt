@@ -8,7 +8,7 @@ ghost use Rattle.orders.specs.Order.{cancelled_by, closed_of, executed_by, fourt
 
 use kinds::{Admission, Locate, Price, Reference, Side};
 
-#[derive(Drop)]
+#[derive(Clone, Copy)]
 pub struct Order {
     pub reference: Reference,
     pub price: Price,

@@ -33,7 +33,7 @@ pub const BOOK: u8 = 13;
 pub const SHAPE: u8 = 14;
 
 // Why a call is refused: the number that 01 gives the refusal. Callers hand it on whole.
-#[derive(Drop)]
+#[derive(Clone, Copy)]
 pub struct Refusal {
     pub number: u8,
 }

@@ -9,6 +9,7 @@ use borrow.Author.Count.{below_more}
 use Rattle.laws.specs.Bit.{bit_cases}
 use Rattle.book.specs.Words.{in_word, in_dead, in_other, in_yes, first_at, word_none}
 use Rattle.search.proofs.find_from.Goals as goal
+use Rattle.search.proofs.find_from.Goals.{then-book-k+else-bit_of-eq1, else-book-k}
 
 pub loop-t-init : goal.loop-t-init
 loop-t-init c = (search rules, c.requires.3)
@@ -24,11 +25,12 @@ pub loop-t-preserved : goal.loop-t-preserved
 loop-t-preserved c = (
   search rules,
   below_more _ _ c.loop-t.invariant.1
-      (⊎_elim
-      (λ w. in_dead _ _ _ _ _ c.loop-t-test.true
-      (⊎_elim (λ z. z) (λ o. absurd (w.2.left (w.1.ensures ∙ o))) (bit_cases _ _)))
-      (λ w. in_other _ _ _ _ _ w.left)
-      c.if-book-k.branch),
+      (elim c.if-book-k.branch [
+        then-book-k+else-bit_of-eq1 w ↦
+            in_dead _ _ _ _ _ c.loop-t-test.true
+            (⊎_elim (λ z. z) (λ o. absurd (w.if-bit_of-eq1.false (w.bit_of.ensures ∙ o))) (bit_cases _ _))
+        | else-book-k w ↦ in_other _ _ _ _ _ w.if-book-k.false
+      ]),
 )
 
 pub returns : goal.returns

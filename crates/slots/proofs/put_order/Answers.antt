@@ -1,0 +1,8 @@
+-- The numbers that are stored are the order's. Assumes nothing.
+use borrow.Author.Rules.{rules}
+use Rattle.slots.specs.Stored.{put_order}
+use Rattle.slots.proofs.put_order.Goals as goal
+
+pub returns : goal.returns
+unfolding put_order
+returns c = cc
