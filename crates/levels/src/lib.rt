@@ -39,7 +39,7 @@ pub enum Survey {
 }
 
 // The orders that a pass looks for: of a stock's side, at prices not before `from` and below `to`, in ticks from the best possible.
-#[derive(Drop)]
+#[derive(Clone, Copy)]
 pub struct Wanted {
     pub locate: Locate,
     pub side: Side,

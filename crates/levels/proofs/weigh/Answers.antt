@@ -5,22 +5,7 @@ use Rattle.kinds.specs.Admission.{maximum}
 use Rattle.orders.specs.Soundness.{Passes}
 use Rattle.levels.specs.Letters.{pass_letters, unlettered}
 use Rattle.levels.specs.Compare.{Weighed, fails_glance, stands_glance, other_glance}
-use Rattle.levels.proofs.weigh.Statement.{statement}
-use Rattle.levels.proofs.weigh.Tie as tie
-
-returns : tie.Need-returns
-unfolding maximum
-returns c = λ n0. fails_glance _ _ _ _ _ n0 (λ p. omega (arith, c.if1.true, p.price))
-
-returns-2 : tie.Need-returns-2
-returns-2 c = λ n0. fails_glance _ _ _ _ _ n0 (λ p. omega (arith, c.if2.true, p.locate))
-
-returns-3 : tie.Need-returns-3
-returns-3 c = λ n0. fails_glance _ _ _ _ _ n0 (λ p. omega (arith, c.if3.true, p.left))
-
-returns-4 : tie.Need-returns-4
-returns-4 c =
-    λ n0. fails_glance _ _ _ _ _ n0 (unlettered _ _ _ (sym c.before.lettered.ensures ∙ not-true _ c.if4.true))
+use Rattle.levels.proofs.weigh.Goals as goal
 
 abbrev start : tie.After-wrapping-sub-u64 → tie.Start
 start c = c.before.before.before.before.before.before.before
@@ -52,28 +37,22 @@ weighed c =
       wraps = c.wrapping-sub-u64.ensures;
     }
 
-returns-5 : tie.Need-returns-5
-returns-5 c = λ n0. stands_glance _ _ _ _ _ n0 (weighed c.before) (omega (arith, c.if5.true, (start c.before).requires.1))
+pub returns-then-n1-gt8589934596294967295 : goal.returns-then-n1-gt8589934596294967295
+unfolding maximum
+returns-then-n1-gt8589934596294967295 c = λ n0. fails_glance _ _ _ _ _ n0 (λ p. omega (arith, c.if-n1-gt8589934596294967295.true, p.price))
 
-returns-6 : tie.Need-returns-6
-returns-6 c = λ n0. other_glance _ _ _ _ _ n0 (weighed c.before) (omega (arith, c.if5.false, (start c.before).requires.1))
+pub returns-then-n3-lt281474976710656 : goal.returns-then-n3-lt281474976710656
+returns-then-n3-lt281474976710656 c = λ n0. fails_glance _ _ _ _ _ n0 (λ p. omega (arith, c.if-n3-lt281474976710656.true, p.locate))
 
-pub weigh-spec : {M : Type 1} → statement M
-weigh-spec =
-    tie.close
-    (tie.spec
-    (λ c. search rules)
-    returns
-    returns-2
-    returns-3
-    (λ c κs. search rules)
-    returns-4
-    (λ c. search rules)
-    (λ c κs. search rules)
-    (λ c. search rules)
-    (λ c. search rules)
-    (λ c κs. search rules)
-    (λ c. search rules)
-    (λ c. search rules)
-    returns-5
-    returns-6)
+pub returns-then-added-gone : goal.returns-then-added-gone
+returns-then-added-gone c = λ n0. fails_glance _ _ _ _ _ n0 (λ p. omega (arith, c.if-added-gone.true, p.left))
+
+pub returns-then-not-good : goal.returns-then-not-good
+returns-then-not-good c =
+    λ n0. fails_glance _ _ _ _ _ n0 (unlettered _ _ _ (sym c.lettered-good.ensures ∙ c.if-not-good.true))
+
+pub returns-then-past-room : goal.returns-then-past-room
+returns-then-past-room c = λ n0. stands_glance _ _ _ _ _ n0 (weighed c.before) (omega (arith, c.if-past-room.true, (start c.before).requires.1))
+
+pub returns : goal.returns
+returns c = λ n0. other_glance _ _ _ _ _ n0 (weighed c.before) (omega (arith, c.if-past-room.false, (start c.before).requires.1))

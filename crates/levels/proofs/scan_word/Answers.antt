@@ -1,0 +1,63 @@
+-- `levels::scan_word` meets its contract. The loop's invariant: `Sweep`, what was seen so far and m with the one bits of the slots
+use Rattle.std.proofs.Common.{◌≡◌, sym, ap, ◌∙◌, ⊎_elim, arith, rules}
+use lib.Count.{trailing_le}
+use Rattle.levels.specs.declared.Best.{Best}
+use Rattle.levels.specs.declared.Pass.TheVariants as pass
+use Rattle.levels.specs.Glances.{room_of}
+use Rattle.levels.specs.GlanceLaws.{unsound_seen, other_seen, stands_seen}
+use Rattle.levels.specs.Sweep as sweep
+use Rattle.levels.proofs.scan_word.Goals as goal
+
+pub loop-m-init : goal.loop-m-init
+loop-m-init c =
+    (sweep.sweep_start _ _ _ _ _ (c.shared_slice_known-2-1.given c.args.j).fits c.requires.2, c.room_of_lem.ensures)
+
+pub overflow_cast-t : goal.overflow_cast-t
+overflow_cast-t c = omega (arith, trailing_le 64 c.loop-m.m)
+
+pub overflow_add-j : goal.overflow_add-j
+overflow_add-j c = omega (arith, sweep.next_lt _ _ _ _ _ _ c.loop-m.invariant.0 c.loop-m-test.true)
+
+pub glance-glimpse-requires : goal.glance-glimpse-requires
+glance-glimpse-requires c =
+    let l = sweep.next_lt _ _ _ _ _ _ c.loop-m.invariant.0 c.loop-m-test.true in
+    (c.requires.0, omega (arith, l, c.requires.1), c.base_of-base.ensures, c.loop-m.invariant.1)
+
+pub returns-in-Unsound : goal.returns-in-Unsound
+returns-in-Unsound c =
+    sweep.sweep_unsound _ _ _ _ _ _ c.loop-m.invariant.0 c.loop-m-test.true
+    (unsound_seen _ _ _ (sym c.glance-glimpse.ensures ∙ c.in-Unsound.is))
+
+pub join-now-requires : goal.join-now-requires
+join-now-requires c =
+    let p = c.requires in
+    let q = sweep.sweep_small _ _ _ _ c.loop-m.invariant.0 p.1 p.0.most in
+    let h = stands_seen _ c.loop-m.now _ _ _ (sym c.glance-glimpse.ensures ∙ c.in-Stands.is) in
+    (omega (arith, q.shares), omega (arith, q.orders), h.1)
+
+pub overflow_sub-m : goal.overflow_sub-m
+overflow_sub-m c = omega (arith, c.loop-m-test.true)
+
+pub loop-m-smaller : goal.loop-m-smaller
+loop-m-smaller c = sweep.sweep_less _ _ _ _ _ _ c.loop-m.invariant.0 c.loop-m-test.true
+
+pub loop-m-preserved : goal.loop-m-preserved
+loop-m-preserved c =
+    let w = c.args.w in
+    let i = c.loop-m.invariant in
+    let t = c.loop-m-test.true in
+    let g = c.glance-glimpse.ensures in
+    ⊎_elim
+    (λ v. (
+      sweep.sweep_more _ _ _ _ _ _ i.0 t _ (other_seen _ _ _ (sym g ∙ v.1.given.1) ∙ ap pass.Seen (sym v.2)),
+      v.3 ∙ i.1 ∙ ap (λ (x : Best). room_of w x.ticks) (sym v.2),
+    ))
+    (λ v. (
+      sweep.sweep_more _ _ _ _ _ _ i.0 t _
+          ((stands_seen _ _ _ _ _ (sym g ∙ v.1.given.1)).0 ∙ ap pass.Seen (sym (v.5 ∙ v.3.ensures))),
+      v.6 ∙ v.4.ensures ∙ ap (λ (x : Best). room_of w x.ticks) (sym v.5),
+    ))
+    c.in-Unsound.in-Unsound-own.branch
+
+pub returns : goal.returns
+returns c = sweep.sweep_done _ _ _ _ _ _ c.loop-m.invariant.0 c.loop-m-test.false

@@ -1,0 +1,15 @@
+-- `levels::scan_word` meets its contract. The loop's invariant: `Sweep`, what was seen so far and m with the one bits of the slots
+use Rattle.std.proofs.Common.{◌≡◌, sym, ap, ◌∙◌, ⊎_elim, arith, rules}
+use lib.Count.{trailing_le}
+use Rattle.levels.specs.declared.Best.{Best}
+use Rattle.levels.specs.declared.Pass.TheVariants as pass
+use Rattle.levels.specs.Glances.{room_of}
+use Rattle.levels.specs.GlanceLaws.{unsound_seen, other_seen, stands_seen}
+use Rattle.levels.specs.Sweep as sweep
+use Rattle.levels.proofs.scan_word.Given as goal
+
+abbrev pub invariant-loop-m : goal.invariant-loop-m
+invariant-loop-m l = sweep.Sweep l.w l.book l.k l.j l.now l.m × (l.room ≡ room_of l.w l.now.ticks)
+
+abbrev pub decreases-loop-m : goal.decreases-loop-m
+decreases-loop-m l = l.m

@@ -1,0 +1,18 @@
+-- A refusal is the verdict's, and what comes of the order that is here is what comes of the message. Assumes nothing.
+use mathlib.Core.Path.{sym, ◌∙◌}
+use Rattle.slots.specs.ConcernedLaws.{turned-away, here, let_through, in_slot}
+use borrow.Author.Rules.{rules}
+use Rattle.take.proofs.delete.Goals as goal
+
+pub close-requires : goal.close-requires
+close-requires c =
+    in_slot _ _ _ _ _ _ (here _ _ _ _ _ _ (sym c.in-Here.is ∙ c.concerned-concern.ensures)) c.requires
+
+pub returns-in-Refused : goal.returns-in-Refused
+returns-in-Refused c =
+    turned-away _ _ _ _ _ _ (sym c.in-Refused.is ∙ c.concerned-concern.ensures)
+
+pub returns-in-Here : goal.returns-in-Here
+returns-in-Here c =
+    let_through _ _ _ _ _ _ _ _ _ (here _ _ _ _ _ _ (sym c.in-Here.is ∙ c.concerned-concern.ensures))
+    c.close.ensures
