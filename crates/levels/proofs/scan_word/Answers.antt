@@ -10,7 +10,7 @@ use Rattle.levels.proofs.scan_word.Goals as goal
 
 pub loop-m-init : goal.loop-m-init
 loop-m-init c =
-    (sweep.sweep_start _ _ _ _ _ (c.shared_slice_known-2-1.given c.args.j).fits c.requires.2, c.room_of_lem.ensures)
+    (sweep.sweep_start _ _ _ _ _ (c.shared_slice_known-2-1.given c.args.j).fits c.requires.2, c.room_of-room.ensures)
 
 pub overflow_cast-t : goal.overflow_cast-t
 overflow_cast-t c = omega (arith, trailing_le 64 c.loop-m.m)

@@ -35,8 +35,8 @@ returns-in-At c =
     let a = c.args in
     let d = a.directory.now in
     let b = a.book.now in
-    let p = sym c.entry_at.ensures ∙ c.entry.given.1 in
-    live d b a.k a.symbol a.o c.refuse-in-At.result c.entry.given.0.0 p c.if1.false c.if-registered-eq0.false c.in-At.field-0
+    let p = sym c.entry_at-entry.ensures ∙ c.in-Symbol.is in
+    live d b a.k a.symbol a.o c.refuse-in-At.result c.in-Symbol.registered p c.if-registered-eq0.false c.if-registered-symbol.false c.in-At.field-0
     (sym c.find-found.ensures ∙ c.in-At.is) c.refuse-in-At.ensures
 
 pub returns-in_default-free : goal.returns-in_default-free
@@ -44,9 +44,9 @@ returns-in_default-free c =
     let a = c.args in
     let d = a.directory.now in
     let b = a.book.now in
-    let p = sym c.entry_at.ensures ∙ c.entry.given.1 in
-    no_room d b a.k a.symbol a.o c.refuse-in_default-free.result c.entry.given.0.0 p c.if1.false c.if2.false
-    (sym c.find.ensures ∙ c.enum-told3.given.1) (sym c.lowest_free-free.ensures ∙ c.in_default-free.is) c.refuse-in_default-free.ensures
+    let p = sym c.entry_at-entry.ensures ∙ c.in-Symbol.is in
+    no_room d b a.k a.symbol a.o c.refuse-in_default-free.result c.in-Symbol.registered p c.if-registered-eq0.false c.if-registered-symbol.false
+    (sym c.find-found.ensures ∙ c.in_default-found.is) (sym c.lowest_free-free.ensures ∙ c.in_default-free.is) c.refuse-in_default-free.ensures
 
 pub put_order-requires : goal.put_order-requires
 put_order-requires c =
@@ -58,7 +58,7 @@ returns c =
     let a = c.args in
     let d = a.directory.now in
     let b = a.book.now in
-    let p = sym c.entry_at.ensures ∙ c.entry.given.1 in
-    enters_at d b a.k a.symbol a.o _ c.entry.given.0.0 p c.if1.false c.if2.false c.in-At-free.slot _
-    (sym c.find.ensures ∙ c.enum-told3.given.1) (sym c.lowest_free-free.ensures ∙ c.in-At-free.is)
+    let p = sym c.entry_at-entry.ensures ∙ c.in-Symbol.is in
+    enters_at d b a.k a.symbol a.o _ c.in-Symbol.registered p c.if-registered-eq0.false c.if-registered-symbol.false c.in-At-free.slot _
+    (sym c.find-found.ensures ∙ c.in_default-found.is) (sym c.lowest_free-free.ensures ∙ c.in-At-free.is)
     (ap One (c.figured.ensures ∙ ap (figures_of a.o a.o.added) c.remaining.ensures)) c.put_order.ensures
