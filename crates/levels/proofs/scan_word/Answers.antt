@@ -7,6 +7,7 @@ use Rattle.levels.specs.Glances.{room_of}
 use Rattle.levels.specs.GlanceLaws.{unsound_seen, other_seen, stands_seen}
 use Rattle.levels.specs.Sweep as sweep
 use Rattle.levels.proofs.scan_word.Goals as goal
+use Rattle.levels.proofs.scan_word.Goals.{in-Other, in-Stands}
 
 pub loop-m-init : goal.loop-m-init
 loop-m-init c =
@@ -47,17 +48,17 @@ loop-m-preserved c =
     let i = c.loop-m.invariant in
     let t = c.loop-m-test.true in
     let g = c.glance-glimpse.ensures in
-    ⊎_elim
-    (λ v. (
-      sweep.sweep_more _ _ _ _ _ _ i.0 t _ (other_seen _ _ _ (sym g ∙ v.1.given.1) ∙ ap pass.Seen (sym v.2)),
-      v.3 ∙ i.1 ∙ ap (λ (x : Best). room_of w x.ticks) (sym v.2),
-    ))
-    (λ v. (
-      sweep.sweep_more _ _ _ _ _ _ i.0 t _
-          ((stands_seen _ _ _ _ _ (sym g ∙ v.1.given.1)).0 ∙ ap pass.Seen (sym (v.5 ∙ v.3.ensures))),
-      v.6 ∙ v.4.ensures ∙ ap (λ (x : Best). room_of w x.ticks) (sym v.5),
-    ))
-    c.in-Unsound.in-Unsound-own.branch
+    elim c.match-glimpse.branch [
+      in-Other v ↦ (
+        sweep.sweep_more _ _ _ _ _ _ i.0 t _ (other_seen _ _ _ (sym g ∙ v.in-Other.is) ∙ ap pass.Seen (sym v.now-is)),
+        v.room-is ∙ i.1 ∙ ap (λ (x : Best). room_of w x.ticks) (sym v.now-is),
+      )
+      | in-Stands v ↦ (
+        sweep.sweep_more _ _ _ _ _ _ i.0 t _
+            ((stands_seen _ _ _ _ _ (sym g ∙ v.in-Stands.is)).0 ∙ ap pass.Seen (sym (v.now-is ∙ v.join-now.ensures))),
+        v.room-is ∙ v.room_of-room-in-Stands.ensures ∙ ap (λ (x : Best). room_of w x.ticks) (sym v.now-is),
+      )
+    ]
 
 pub returns : goal.returns
 returns c = sweep.sweep_done _ _ _ _ _ _ c.loop-m.invariant.0 c.loop-m-test.false

@@ -1,40 +1,40 @@
 -- Each test that fails is one that a slot must pass; past them all, the compare tells whether the order matters. Assumes nothing.
-use Rattle.std.proofs.Common.{sym, ◌∙◌, arith, rules}
-use borrow.Author.Tests.{not-true, not-false}
+use Rattle.std.proofs.Common.{◌≡◌, ℕ, ◌+◌, ◌-◌, ◌/◌, ◌%◌, ◌<◌, ◌≤◌, true, sym, ◌∙◌, arith}
 use Rattle.kinds.specs.Admission.{maximum}
 use Rattle.orders.specs.Soundness.{Passes}
 use Rattle.levels.specs.Letters.{pass_letters, unlettered}
+use Rattle.levels.specs.declared.Wanted.{Wanted}
+use Rattle.levels.specs.Glances.{Based, lettered}
+use Rattle.levels.specs.Ticks.{ticks_to}
 use Rattle.levels.specs.Compare.{Weighed, fails_glance, stands_glance, other_glance}
 use Rattle.levels.proofs.weigh.Goals as goal
 
-abbrev start : tie.After-wrapping-sub-u64 → tie.Start
-start c = c.before.before.before.before.before.before.before
-
 -- past the tests
-weighed : (c : tie.After-wrapping-sub-u64)
-    → Weighed (start c).args.w (start c).args.n1 (start c).args.n2 (start c).args.n3 (start c).args.base
-    c.wrapping-sub-u64.result c.before.ticks-to.result
+weighed : (w : Wanted) (n1 n2 n3 base past ticks : ℕ)
+    → n1 ≤ 8589934596294967295 → 281474976710656 ≤ n3 → n2 / 4294967296 + n2 % 4294967296 < n1 % 4294967296 → lettered n3 ≡ true
+    → n1 < 18446744073709551616 → n3 < 18446744073709551616 → Based w base → base < 18446744073709551616
+    → past < 18446744073709551616 → ticks ≡ ticks_to w.side (n1 / 4294967296)
+    → (past + base) % 18446744073709551616 ≡ n3 - n3 % 1099511627776 + ticks → Weighed w n1 n2 n3 base past ticks
 unfolding maximum
-weighed c =
-    let s = start c in
-    let good = pass_letters s.args.n3 (sym c.before.before.before.lettered.ensures ∙ not-false _ c.before.before.if4.false) in
-    let passes : Passes s.args.n1 s.args.n2 s.args.n3 = record {
-      price = omega (arith, c.before.before.before.before.before.before.if1.false);
-      locate = omega (arith, c.before.before.before.before.before.if2.false);
+weighed w n1 n2 n3 base past ticks price locate left letters second fourth based small fits away wraps =
+    let good = pass_letters n3 letters in
+    let passes : Passes n1 n2 n3 = record {
+      price = omega (arith, price);
+      locate = omega (arith, locate);
       side = good.side;
       attribution = good.attribution;
       low = good.low;
-      left = omega (arith, c.before.before.before.before.if3.false);
+      left = omega (arith, left);
     } in
     record {
       passes = passes;
-      second = s.fits.n1.fits;
-      fourth = s.fits.n3.fits;
-      based = s.pre.0;
-      small = s.fits.base.fits;
-      fits = c.wrapping-sub-u64.type-inv;
-      away = c.before.ticks-to.ensures.0;
-      wraps = c.wrapping-sub-u64.ensures;
+      second = second;
+      fourth = fourth;
+      based = based;
+      small = small;
+      fits = fits;
+      away = away;
+      wraps = wraps;
     }
 
 pub returns-then-n1-gt8589934596294967295 : goal.returns-then-n1-gt8589934596294967295
@@ -52,7 +52,17 @@ returns-then-not-good c =
     λ n0. fails_glance _ _ _ _ _ n0 (unlettered _ _ _ (sym c.lettered-good.ensures ∙ c.if-not-good.true))
 
 pub returns-then-past-room : goal.returns-then-past-room
-returns-then-past-room c = λ n0. stands_glance _ _ _ _ _ n0 (weighed c.before) (omega (arith, c.if-past-room.true, (start c.before).requires.1))
+returns-then-past-room c = λ n0.
+    stands_glance _ _ _ _ _ n0
+    (weighed c.args.w c.args.n1 c.args.n2 c.args.n3 c.args.base _ _ c.if-n1-gt8589934596294967295.false c.if-n3-lt281474976710656.false c.if-added-gone.false
+        (sym c.lettered-good.ensures ∙ c.if-not-good.false) c.ranges.n1.fits c.ranges.n3.fits c.requires.0 c.ranges.base.fits c.wrapping_sub_u64-past.type_inv
+        c.ticks_to-ticks.ensures.0 c.wrapping_sub_u64-past.ensures.value)
+    (omega (arith, c.if-past-room.true, c.requires.1))
 
 pub returns : goal.returns
-returns c = λ n0. other_glance _ _ _ _ _ n0 (weighed c.before) (omega (arith, c.if-past-room.false, (start c.before).requires.1))
+returns c = λ n0.
+    other_glance _ _ _ _ _ n0
+    (weighed c.args.w c.args.n1 c.args.n2 c.args.n3 c.args.base _ _ c.if-n1-gt8589934596294967295.false c.if-n3-lt281474976710656.false c.if-added-gone.false
+        (sym c.lettered-good.ensures ∙ c.if-not-good.false) c.ranges.n1.fits c.ranges.n3.fits c.requires.0 c.ranges.base.fits c.wrapping_sub_u64-past.type_inv
+        c.ticks_to-ticks.ensures.0 c.wrapping_sub_u64-past.ensures.value)
+    (omega (arith, c.if-past-room.false, c.requires.1))

@@ -1,0 +1,6 @@
+-- The side's byte is the one that the definition shows. Assumes nothing.
+use borrow.Author.Rules.{rules}
+use Rattle.numbers.proofs.orders.add_order_mpid.Goals as goal
+
+pub returns : goal.returns
+returns c = cc

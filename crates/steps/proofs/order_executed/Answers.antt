@@ -1,0 +1,14 @@
+-- What the call below ensures of what was found is what the message asks for. Assumes nothing.
+use borrow.Author.Rules.{rules}
+use Rattle.book.specs.Finds.{find_within}
+use Rattle.messages.specs.declared.Message.TheVariants.{OrderExecuted}
+use Rattle.steps.specs.Asked.{asked}
+use Rattle.steps.proofs.Laws.{as_sought}
+use Rattle.steps.proofs.order_executed.Goals as goal
+
+pub take-requires : goal.take-requires
+take-requires c = (c.requires, find_within _ _ _ _ c.find-found.ensures)
+
+pub returns : goal.returns
+returns c =
+    as_sought _ _ (asked (OrderExecuted c.args.m)) _ _ _ c.find-found.ensures c.take.ensures
