@@ -4,13 +4,18 @@ use mathlib.Core.Path.{◌≡◌, refl, sym, subst}
 use mathlib.Core.Bool.{Bool, true, false, not, cond, false≢true}
 use mathlib.Core.List.{List, [], ◌∷◌}
 use Prim.Native.Nat.{ℕ}
-use denote.Enum.Declared.{tag_of}
 use lib.Dec.{eqb, leb}
-use types.Run.{OneOf, miss}
 use Rattle.refusals.specs.Refusals.{CONFLICT, DUPLICATE, FULL, OVER, STOCK}
-use Rattle.messages.specs.contracts.Message.{the_type}
+use Rattle.messages.specs.declared.AddOrder.{AddOrder}
+use Rattle.messages.specs.declared.AddOrderMpid.{AddOrderMpid}
 use Rattle.messages.specs.declared.Message.{Message}
 use Rattle.messages.specs.declared.Message.TheVariants as m
+use Rattle.messages.specs.declared.OrderExecuted.{OrderExecuted}
+use Rattle.messages.specs.declared.OrderExecutedWithPrice.{OrderExecutedWithPrice}
+use Rattle.messages.specs.declared.OrderCancel.{OrderCancel}
+use Rattle.messages.specs.declared.OrderDelete.{OrderDelete}
+use Rattle.messages.specs.declared.OrderReplace.{OrderReplace}
+use Rattle.messages.specs.declared.StockDirectory.{StockDirectory}
 use Rattle.directory.specs.declared.Entry.{Entry}
 use Rattle.directory.specs.declared.Entry.TheVariants.{Outside, Symbol}
 use Rattle.directory.specs.Directory.{entry_at, is_symbol}
@@ -94,13 +99,20 @@ noted d b k x l symbol r d' e s =
     subst (λ z. Does d b k z r d' b) (sym e)
     (record { answered = s.answered; directory = s.after; book = sym (registering_stores b k (entry_at d l) l symbol) })
 
--- the kinds that the code does not name, by their places in the list of kinds
-abbrev unnamed : List ℕ
-unnamed = 0 ∷ 2 ∷ 3 ∷ 4 ∷ 5 ∷ 6 ∷ 7 ∷ 8 ∷ 9 ∷ 17 ∷ 18 ∷ 19 ∷ 20 ∷ 21 ∷ 22 ∷ []
+-- a message of a kind that the code does not name
+pub record Unnamed (x : Message) : Type 0 where
+  pub stock_directory : (y : StockDirectory) → x ≡ m.StockDirectory y → ⊥
+  pub add_order : (y : AddOrder) → x ≡ m.AddOrder y → ⊥
+  pub add_order_mpid : (y : AddOrderMpid) → x ≡ m.AddOrderMpid y → ⊥
+  pub order_executed : (y : OrderExecuted) → x ≡ m.OrderExecuted y → ⊥
+  pub order_executed_with_price : (y : OrderExecutedWithPrice) → x ≡ m.OrderExecutedWithPrice y → ⊥
+  pub order_cancel : (y : OrderCancel) → x ≡ m.OrderCancel y → ⊥
+  pub order_delete : (y : OrderDelete) → x ≡ m.OrderDelete y → ⊥
+  pub order_replace : (y : OrderReplace) → x ≡ m.OrderReplace y → ⊥
 
-quiet : (x : Message) → OneOf unnamed (tag_of the_type x) → asked x ≡ nothing
+quiet : (x : Message) → Unnamed x → asked x ≡ nothing
 quiet (m.SystemEvent x) o = refl
-quiet (m.StockDirectory x) o = absurd (miss unnamed 1 tt o)
+quiet (m.StockDirectory x) o = absurd (o.stock_directory x refl)
 quiet (m.StockTradingAction x) o = refl
 quiet (m.RegShoRestriction x) o = refl
 quiet (m.MarketParticipantPosition x) o = refl
@@ -109,13 +121,13 @@ quiet (m.MwcbStatus x) o = refl
 quiet (m.QuotingPeriodUpdate x) o = refl
 quiet (m.LuldAuctionCollar x) o = refl
 quiet (m.OperationalHalt x) o = refl
-quiet (m.AddOrder x) o = absurd (miss unnamed 10 tt o)
-quiet (m.AddOrderMpid x) o = absurd (miss unnamed 11 tt o)
-quiet (m.OrderExecuted x) o = absurd (miss unnamed 12 tt o)
-quiet (m.OrderExecutedWithPrice x) o = absurd (miss unnamed 13 tt o)
-quiet (m.OrderCancel x) o = absurd (miss unnamed 14 tt o)
-quiet (m.OrderDelete x) o = absurd (miss unnamed 15 tt o)
-quiet (m.OrderReplace x) o = absurd (miss unnamed 16 tt o)
+quiet (m.AddOrder x) o = absurd (o.add_order x refl)
+quiet (m.AddOrderMpid x) o = absurd (o.add_order_mpid x refl)
+quiet (m.OrderExecuted x) o = absurd (o.order_executed x refl)
+quiet (m.OrderExecutedWithPrice x) o = absurd (o.order_executed_with_price x refl)
+quiet (m.OrderCancel x) o = absurd (o.order_cancel x refl)
+quiet (m.OrderDelete x) o = absurd (o.order_delete x refl)
+quiet (m.OrderReplace x) o = absurd (o.order_replace x refl)
 quiet (m.Trade x) o = refl
 quiet (m.CrossTrade x) o = refl
 quiet (m.BrokenTrade x) o = refl
@@ -124,7 +136,7 @@ quiet (m.RetailInterest x) o = refl
 quiet (m.DirectListing x) o = refl
 
 -- a message of such a kind is accepted and changes nothing
-pub rested : (d b : List ℕ) (k : ℕ) (x : Message) → OneOf unnamed (tag_of the_type x) → Does d b k (asked x) Plain d b
+pub rested : (d b : List ℕ) (k : ℕ) (x : Message) → Unnamed x → Does d b k (asked x) Plain d b
 rested d b k x o = subst (λ z. Does d b k z Plain d b) (sym (quiet x o)) (record { answered = refl; directory = refl; book = refl })
 
 pub same_whole : (o o' : Order) → o ≡ o' → Intact o' → Intact o

@@ -48,4 +48,14 @@ returns-in-StockDirectory c =
 pub returns-in_default : goal.returns-in_default
 returns-in_default c =
     let a = c.args in
-    rested a.directory.now a.book.now a.k a.m c.in_default.in_default-own.keys9
+    rested a.directory.now a.book.now a.k a.m
+    (record {
+      stock_directory = c.in_default.not-StockDirectory;
+      add_order = c.in_default.not-AddOrder;
+      add_order_mpid = c.in_default.not-AddOrderMpid;
+      order_executed = c.in_default.not-OrderExecuted;
+      order_executed_with_price = c.in_default.not-OrderExecutedWithPrice;
+      order_cancel = c.in_default.not-OrderCancel;
+      order_delete = c.in_default.not-OrderDelete;
+      order_replace = c.in_default.not-OrderReplace;
+    })
