@@ -6,7 +6,7 @@ use kinds::{Locate, Price, Reference, Side};
 use refusals::Refusal;
 
 // The fields that every message begins with.
-#[derive(Drop)]
+#[derive(Clone, Copy)]
 pub struct Head {
     pub stock_locate: Locate,
     pub tracking_number: u16,
@@ -14,14 +14,14 @@ pub struct Head {
 }
 
 // S: System Event, 1.1.
-#[derive(Drop)]
+#[derive(Clone, Copy)]
 pub struct SystemEvent {
     pub head: Head,
     pub event_code: u8,
 }
 
 // R: Stock Directory, 1.2.1.
-#[derive(Drop)]
+#[derive(Clone, Copy)]
 pub struct StockDirectory {
     pub head: Head,
     pub stock: u64,
@@ -41,7 +41,7 @@ pub struct StockDirectory {
 }
 
 // H: Stock Trading Action, 1.2.2.
-#[derive(Drop)]
+#[derive(Clone, Copy)]
 pub struct StockTradingAction {
     pub head: Head,
     pub stock: u64,
@@ -51,7 +51,7 @@ pub struct StockTradingAction {
 }
 
 // Y: Reg SHO Restriction, 1.2.3.
-#[derive(Drop)]
+#[derive(Clone, Copy)]
 pub struct RegShoRestriction {
     pub head: Head,
     pub stock: u64,
@@ -59,7 +59,7 @@ pub struct RegShoRestriction {
 }
 
 // L: Market Participant Position, 1.2.4.
-#[derive(Drop)]
+#[derive(Clone, Copy)]
 pub struct MarketParticipantPosition {
     pub head: Head,
     pub mpid: u32,
@@ -70,7 +70,7 @@ pub struct MarketParticipantPosition {
 }
 
 // V: MWCB Decline Level, 1.2.5.1.
-#[derive(Drop)]
+#[derive(Clone, Copy)]
 pub struct MwcbDeclineLevel {
     pub head: Head,
     pub level_1: u64,
@@ -79,14 +79,14 @@ pub struct MwcbDeclineLevel {
 }
 
 // W: MWCB Status, 1.2.5.2.
-#[derive(Drop)]
+#[derive(Clone, Copy)]
 pub struct MwcbStatus {
     pub head: Head,
     pub breached_level: u8,
 }
 
 // K: Quoting Period Update, 1.2.6.
-#[derive(Drop)]
+#[derive(Clone, Copy)]
 pub struct QuotingPeriodUpdate {
     pub head: Head,
     pub stock: u64,
@@ -96,7 +96,7 @@ pub struct QuotingPeriodUpdate {
 }
 
 // J: LULD Auction Collar, 1.2.7.
-#[derive(Drop)]
+#[derive(Clone, Copy)]
 pub struct LuldAuctionCollar {
     pub head: Head,
     pub stock: u64,
@@ -107,7 +107,7 @@ pub struct LuldAuctionCollar {
 }
 
 // h: Operational Halt, 1.2.8.
-#[derive(Drop)]
+#[derive(Clone, Copy)]
 pub struct OperationalHalt {
     pub head: Head,
     pub stock: u64,
@@ -116,7 +116,7 @@ pub struct OperationalHalt {
 }
 
 // A: Add Order, no MPID attribution, 1.3.1.
-#[derive(Drop)]
+#[derive(Clone, Copy)]
 pub struct AddOrder {
     pub head: Head,
     pub order_reference_number: Reference,
@@ -127,7 +127,7 @@ pub struct AddOrder {
 }
 
 // F: Add Order with MPID attribution, 1.3.2.
-#[derive(Drop)]
+#[derive(Clone, Copy)]
 pub struct AddOrderMpid {
     pub head: Head,
     pub order_reference_number: Reference,
@@ -139,7 +139,7 @@ pub struct AddOrderMpid {
 }
 
 // E: Order Executed, 1.4.1.
-#[derive(Drop)]
+#[derive(Clone, Copy)]
 pub struct OrderExecuted {
     pub head: Head,
     pub order_reference_number: Reference,
@@ -148,7 +148,7 @@ pub struct OrderExecuted {
 }
 
 // C: Order Executed With Price, 1.4.2.
-#[derive(Drop)]
+#[derive(Clone, Copy)]
 pub struct OrderExecutedWithPrice {
     pub head: Head,
     pub order_reference_number: Reference,
@@ -159,7 +159,7 @@ pub struct OrderExecutedWithPrice {
 }
 
 // X: Order Cancel, 1.4.3.
-#[derive(Drop)]
+#[derive(Clone, Copy)]
 pub struct OrderCancel {
     pub head: Head,
     pub order_reference_number: Reference,
@@ -167,14 +167,14 @@ pub struct OrderCancel {
 }
 
 // D: Order Delete, 1.4.4.
-#[derive(Drop)]
+#[derive(Clone, Copy)]
 pub struct OrderDelete {
     pub head: Head,
     pub order_reference_number: Reference,
 }
 
 // U: Order Replace, 1.4.5.
-#[derive(Drop)]
+#[derive(Clone, Copy)]
 pub struct OrderReplace {
     pub head: Head,
     pub original_order_reference_number: Reference,
@@ -184,7 +184,7 @@ pub struct OrderReplace {
 }
 
 // P: Trade (Non-Cross), 1.5.1.
-#[derive(Drop)]
+#[derive(Clone, Copy)]
 pub struct Trade {
     pub head: Head,
     pub order_reference_number: Reference,
@@ -196,7 +196,7 @@ pub struct Trade {
 }
 
 // Q: Cross Trade, 1.5.2.
-#[derive(Drop)]
+#[derive(Clone, Copy)]
 pub struct CrossTrade {
     pub head: Head,
     pub shares: u64,
@@ -207,14 +207,14 @@ pub struct CrossTrade {
 }
 
 // B: Broken Trade, 1.5.3.
-#[derive(Drop)]
+#[derive(Clone, Copy)]
 pub struct BrokenTrade {
     pub head: Head,
     pub match_number: u64,
 }
 
 // I: Net Order Imbalance Indicator, 1.6.
-#[derive(Drop)]
+#[derive(Clone, Copy)]
 pub struct NetOrderImbalance {
     pub head: Head,
     pub paired_shares: u64,
@@ -229,7 +229,7 @@ pub struct NetOrderImbalance {
 }
 
 // N: Retail Interest, 1.7.
-#[derive(Drop)]
+#[derive(Clone, Copy)]
 pub struct RetailInterest {
     pub head: Head,
     pub stock: u64,
@@ -237,7 +237,7 @@ pub struct RetailInterest {
 }
 
 // O: Direct Listing with Capital Raise, 1.8.
-#[derive(Drop)]
+#[derive(Clone, Copy)]
 pub struct DirectListing {
     pub head: Head,
     pub stock: u64,
@@ -250,7 +250,7 @@ pub struct DirectListing {
     pub upper_price_range_collar: Price,
 }
 
-#[derive(Drop)]
+#[derive(Clone, Copy)]
 pub enum Message {
     SystemEvent(SystemEvent),
     StockDirectory(StockDirectory),

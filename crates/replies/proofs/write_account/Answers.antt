@@ -1,0 +1,6 @@
+-- The side's byte is the one that the definition shows. Assumes nothing.
+use borrow.Author.Rules.{rules}
+use Rattle.replies.proofs.write_account.Goals as goal
+
+pub returns : goal.returns
+returns c = cc
