@@ -1,0 +1,17 @@
+-- Each arm is the outcome of its step. Assumes nothing.
+use borrow.Author.Rules.{rules}
+use mathlib.Core.Path.{sym, ap}
+use Rattle.apply.specs.Apply.{concluded}
+use Rattle.apply.proofs.conclude.Goals as goal
+
+pub returns-in-Refused : goal.returns-in-Refused
+returns-in-Refused c = sym (ap (concluded c.args.m) c.in-Refused.is)
+
+pub returns-in-Plain : goal.returns-in-Plain
+returns-in-Plain c = sym (ap (concluded c.args.m) c.in-Plain.is)
+
+pub returns-in-One : goal.returns-in-One
+returns-in-One c = sym (ap (concluded c.args.m) c.in-One.is)
+
+pub returns-in-Two : goal.returns-in-Two
+returns-in-Two c = sym (ap (concluded c.args.m) c.in-Two.is)

@@ -1,0 +1,30 @@
+-- The loop's invariant: what the search from the rung comes to is what it comes to from the first one. The measure is what is left of
+use Prim.Native.Nat.{◌-◌}
+use borrow.Author.Rules.{rules}
+use mathlib.Core.Path.{◌≡◌, refl, sym, ◌∙◌}
+use Rattle.ladders.specs.Search.{next_from}
+use Rattle.ladders.proofs.Laws.{search_done, search_refused, search_on, search_found}
+use Rattle.ladders.proofs.next_from.Goals as goal
+
+pub returns-in-Refused : goal.returns-in-Refused
+returns-in-Refused c =
+    let l = c.loop-rung in
+    search_refused _ l.rung _ _ (sym c.quote_at-quote.ensures ∙ c.in-Refused.is) ∙ l.invariant
+
+pub returns-in-Stands : goal.returns-in-Stands
+returns-in-Stands c =
+    let l = c.loop-rung in
+    let a = c.args in
+    search_found _ l.rung a.locates _ _ c.loop-rung-test.true
+    (sym c.quote_at-quote.ensures ∙ c.in-Stands.is) c.rung_at.ensures ∙ l.invariant
+
+pub loop-rung-preserved : goal.loop-rung-preserved
+loop-rung-preserved c =
+    let l = c.loop-rung in
+    search_on _ l.rung _ (sym c.quote_at-quote.ensures ∙ c.in-Nothing.is) ∙ l.invariant
+
+pub returns : goal.returns
+returns c = search_done _ c.loop-rung.rung _ c.loop-rung-test.false ∙ c.loop-rung.invariant
+
+pub loop-rung-init : goal.loop-rung-init
+loop-rung-init c = refl

@@ -1,0 +1,13 @@
+-- The loop's invariant: what the search from the rung comes to is what it comes to from the first one. The measure is what is left of
+use Prim.Native.Nat.{◌-◌}
+use borrow.Author.Rules.{rules}
+use mathlib.Core.Path.{◌≡◌, refl, sym, ◌∙◌}
+use Rattle.ladders.specs.Search.{next_from}
+use Rattle.ladders.proofs.Laws.{search_done, search_refused, search_on, search_found}
+use Rattle.ladders.proofs.next_from.Given as goal
+
+abbrev pub invariant-loop-rung : goal.invariant-loop-rung
+invariant-loop-rung l = next_from l.book l.rung l.to ≡ next_from l.book l.from l.to
+
+abbrev pub decreases-loop-rung : goal.decreases-loop-rung
+decreases-loop-rung l = l.to - l.rung
