@@ -13,7 +13,7 @@ use blocks::Block;
 use refusals::LENGTH;
 
 // How many messages there were, and how many of them were refused.
-#[derive(Drop)]
+#[derive(Clone, Copy)]
 pub struct Tally {
     pub messages: u64,
     pub refused: u64,
@@ -84,7 +84,7 @@ fn message(
     fed: Fed,
     out: &mut [u8],
 ) -> Fed
-    ensures { record { fed = result; tables = record { directory = directory.exit.now; book = book.new }; out = out.new } ≡ stepped bytes.now end (record { fed = fed; tables = record { directory = directory.entry.now; book = book.old }; out = out.old }) }
+    ensures { record { fed = result; tables = record { directory = directory.new; book = book.new }; out = out.new } ≡ stepped bytes.now end (record { fed = fed; tables = record { directory = directory.old; book = book.old }; out = out.old }) }
 {
     let tally = fed.tally;
     let number = number(apply::apply(directory, book, bytes));
@@ -104,7 +104,7 @@ pub fn feed(
     tally: Tally,
     out: &mut [u8],
 ) -> Fed
-    ensures { record { fed = result; tables = record { directory = directory.exit.now; book = book.new }; out = out.new } ≡ feed_leaves input.now out.old (ran_through (length out.old) input.now (record { tables = record { directory = directory.entry.now; book = book.old }; tally = tally })) }
+    ensures { record { fed = result; tables = record { directory = directory.new; book = book.new }; out = out.new } ≡ feed_leaves input.now out.old (ran_through (length out.old) input.now (record { tables = record { directory = directory.old; book = book.old }; tally = tally })) }
 {
     let mut fed = Fed {
         at: 0,
