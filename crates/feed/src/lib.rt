@@ -13,14 +13,14 @@ use blocks::Block;
 use refusals::LENGTH;
 
 // How many messages there were, and how many of them were refused.
-#[derive(Drop)]
+#[derive(Clone, Copy)]
 pub struct Tally {
     pub messages: u64,
     pub refused: u64,
 }
 
 // How far the input was used, how many bytes of records were written, and the counts then.
-#[derive(Drop)]
+#[derive(Clone, Copy)]
 pub struct Fed {
     pub at: usize,
     pub written: usize,
