@@ -20,7 +20,7 @@ pub struct Tally {
 }
 
 // How far the input was used, how many bytes of records were written, and the counts then.
-#[derive(Drop)]
+#[derive(Clone, Copy)]
 pub struct Fed {
     pub at: usize,
     pub written: usize,

@@ -3,7 +3,7 @@
 use std::env;
 use std::path::{Path, PathBuf};
 
-/// The program that `rt check replay` makes, or the one that LADLEMOSS_REPLAY names; else what to do.
+/// The program that `./test` and `./show` build, or the one that LADLEMOSS_REPLAY names; else what to do.
 pub fn replay_program() -> Result<PathBuf, String> {
     let project = Path::new(env!("CARGO_MANIFEST_DIR")).ancestors().nth(2);
     let project = project.expect("the project's folder");
@@ -15,9 +15,7 @@ pub fn replay_program() -> Result<PathBuf, String> {
         true => Ok(path),
         false => {
             let path = path.display();
-            Err(format!(
-                "no replay program at {path}: run `rt check replay` first"
-            ))
+            Err(format!("no replay program at {path}: run `./show` first"))
         }
     }
 }

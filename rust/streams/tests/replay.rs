@@ -3,7 +3,7 @@
 mod common;
 
 use common::{all_of, control, ended, file, first_refusal, program, records_of};
-use common::{DEADLINE, MOMENT, UNTOLD};
+use common::{DEADLINE, MOMENT};
 use std::ffi::{c_int, c_ulong};
 use std::fs::{File, OpenOptions};
 use std::io::{self, Write};
@@ -115,7 +115,7 @@ fn ends_unheard(input: impl Fn() -> File, name: &str) {
     let (reader, closed) = io::pipe().unwrap();
     drop(reader);
     let end = ended(program(input(), closed), name);
-    assert_eq!(end.told, UNTOLD, "{name}");
+    end.told_of("output", "Broken pipe", name);
 }
 
 #[test]

@@ -14,12 +14,6 @@ use streams::Stored;
 pub const DEADLINE: Duration = Duration::from_secs(10);
 pub const MOMENT: Duration = Duration::from_micros(50);
 
-/// Linux's.
-pub const SIGPIPE: i32 = 13;
-
-/// What a program tells that a signal has ended.
-pub const UNTOLD: &str = "";
-
 extern "C" {
     fn ioctl(descriptor: c_int, request: c_ulong, ...) -> c_int;
 }
