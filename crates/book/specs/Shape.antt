@@ -58,4 +58,12 @@ pub length_sized : {b : List ℕ} {k : ℕ} → BookLength (length b) k → Size
 length_sized z = let m = most_words_lem in let f = z.few in record { size = z.size; most = omega arith }
 
 pub words_sized : (b : List ℕ) (k : ℕ) → words_of (length b) ≡ k → 0 < k → Sized b k
-words_sized b k e l = rw e at (length_sized {b = b} (words_length (length b) (λ z. omega arith)))
+words_sized b k e l =
+    let n = length b in
+    ⊎_elim
+    (λ (d : n % 257 ≡ 0). ⊎_elim
+    (λ m. absurd (omega (arith, words_many n m)))
+    (λ m. let w = words_whole n d m in let h = most_words_lem in record { size = omega arith; most = omega arith })
+    (lt-or-le most_words (n / 257)))
+    (λ d. absurd (omega (arith, words_odd n d)))
+    (same_or (n % 257) 0)

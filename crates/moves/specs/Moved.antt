@@ -1,5 +1,5 @@
--- THE LAW of a step, proved (`moved`): what a verdict takes out of a total and what it puts in, from the verdict's facts. What stays
--- is the book with the old order's slot cleared. Assumes nothing.
+-- The law of a step, from a verdict's facts (`moves`): what the verdict takes out of a total and what it puts in. What stays is the
+-- book with the old order's slot cleared. Assumes nothing.
 use Rattle.std.specs.Prelude.{◌≡◌, ◌≢◌, Bool, true, false, cond, List, eqb}
 use Rattle.std.proofs.Math.Path.{refl}
 use Rattle.std.proofs.Common.{sym, ap, subst, ◌∙◌, arith}
@@ -20,12 +20,10 @@ use Rattle.decide.specs.Decide.{Verdict, refuse, enter, alter, leave, renew, enr
 use Rattle.slots.specs.Stored.{entered, kept, put_order, slot_of, stored}
 use Rattle.levels.specs.Totals.{total}
 use Rattle.steps.specs.Asked.{Asked}
-use Rattle.steps.specs.Steps.{verdict_on, slot_sought}
-use Rattle.moves.specs.Lawful.{Lawful}
-use Rattle.moves.specs.Moves.{taken_out, put_in, Moved, Numbers}
+use Rattle.steps.specs.Steps.{slot_sought}
+use Rattle.moves.specs.Moves.{taken_out, put_in, Moved}
 use Rattle.moves.specs.TotalMoves.{put-total, put_free_total, clear_total, clear_held_total}
 use Rattle.moves.specs.Facts.{Rests, Facts}
-use Rattle.moves.specs.Judged.{facts}
 use Rattle.moves.specs.Altered.{altered_fit}
 use Rattle.moves.specs.Kept.{stored-length}
 
@@ -103,8 +101,3 @@ module _ (d b : List ℕ) (k : ℕ) (a : Asked) (z : Sized b k) where
       entered-total w (clear_slot b k s) k o' f.slot (clear_sized b k s z) f.fit f.free
   moves (enroll l symbol) f = still (λ w. refl) (λ w. refl)
   moves pass f = still (λ w. refl) (λ w. refl)
-
--- and so does what is asked
-pub moved : (d b : List ℕ) (k : ℕ) (a : Asked) → Sized b k → Numbers b → Lawful a
-    → Moved b (stored b k (slot_sought b k a) (verdict_on d b k a)) k (verdict_on d b k a)
-moved d b k a z n y = moves d b k a z (verdict_on d b k a) (facts d b k a z n y)

@@ -26,8 +26,8 @@ use Rattle.wellformed.specs.WellFormed.{good, good_shares, good_price, values}
 use Rattle.reader.specs.Read.{type_of, answer}
 use Rattle.numbers.specs.Shown.{answer_number as number_of}
 use Rattle.read_theorems.specs.Statements.{AllGood}
-use Rattle.read_theorems.specs.Exactly.{read_exactly}
-use Rattle.read_theorems.specs.Fields.{accepted_fields}
+use Rattle.read_theorems.proofs.Exactly.{read_exactly}
+use Rattle.read_theorems.proofs.Fields.{accepted_fields}
 use Rattle.decide.specs.Decide.{unattributed}
 use Rattle.steps.specs.Asked.{starting, asked}
 use Rattle.moves.specs.Lawful.{Bytes, Starts, Symbolic, Lawful}

@@ -2,7 +2,6 @@ pub mod Statements
 pub mod Types
 pub mod Means
 pub mod Faults
-pub mod Exactly
 pub mod Fields
 pub mod Unique
 pub mod Given

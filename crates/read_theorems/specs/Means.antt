@@ -3,7 +3,7 @@ use Rattle.std.specs.Prelude.{◌≡◌, refl, ◌↔◌, ◌⊎◌, Bool, true,
 use Rattle.std.proofs.Common.{inl, inr, ltb-true, lt-ltb, leb-true, le-leb, eqb-true, eq-eqb}
 use Rattle.kinds.specs.Admission.{maximum}
 use Rattle.kinds.specs.Sides.{good_side}
-use Rattle.text.specs.TextMeaning.{text_means, means_text}
+use Rattle.text.proofs.TextMeaning.{text_means, means_text}
 use Rattle.layout.specs.Kind.{Kind}
 use Rattle.layout.specs.Kind.Kind.{number, time, shares, price4, price8, texts, side, printable, code, alpha, reserved}
 use Rattle.wellformed.specs.WellFormed.{good, good_time, good_shares, good_price, good_printable}

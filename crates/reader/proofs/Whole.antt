@@ -20,7 +20,7 @@ use Rattle.messages.specs.Typed.{message}
 use Rattle.messages.specs.TypedLaws.{message_back}
 use Rattle.wellformed.specs.WellFormed.{values}
 use Rattle.wellformed.specs.FaultSum.{faults, shows, held_values}
-use Rattle.wellformed.specs.FaultSumLaws.{faults_show, holds-values}
+use Rattle.wellformed.proofs.FaultSumLaws.{faults_show, holds-values}
 use Rattle.parsed.specs.declared.Parsed.{Parsed}
 use Rattle.parsed.specs.Parsed.{answer_of, HoldsField, IsParsed}
 use Rattle.reader.specs.Read.{no_message, judged_as}

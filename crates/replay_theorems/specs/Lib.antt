@@ -4,6 +4,4 @@ pub mod Heads
 pub mod RanLaws
 pub mod Left
 pub mod Kept
-pub mod Listing
-pub mod Replays
 pub mod Unique

@@ -11,18 +11,19 @@ use Rattle.slots.specs.Stored.{held_at}
 use Rattle.apply.specs.Apply.{number_of}
 use Rattle.apply.specs.Runs.{Tables, answer_to, reached}
 use Rattle.numbers.specs.Shown.{answer_number}
-use Rattle.read_theorems.specs.Exactly.{read_exactly}
+use Rattle.read_theorems.proofs.Exactly.{read_exactly}
 use Rattle.steps.specs.Asked.{Asked, register, start, take, close, replace, nothing, asked}
 use Rattle.apply_theorems.specs.Statements.{IsLive, Broken, first, done, Earned, Judged, Given}
 use Rattle.apply_theorems.specs.Means.{shaped_unique}
-use Rattle.apply_theorems.specs.Exactly.{apply_exactly}
+use Rattle.apply_theorems.proofs.Exactly.{apply_exactly}
 use Rattle.accounts.specs.Accounts.{order_asked}
 use Rattle.census.specs.Census.{count_asked}
 use Rattle.levels.specs.declared.Quote.{Quote}
 use Rattle.levels.specs.Levels.{level_of, best_of, next_of}
 use Rattle.replies.specs.Replies.{account_number, quote_number, count_number}
 use Rattle.ask_theorems.specs.Statements.{in_book, Foul, QuoteExactly}
-use Rattle.ask_theorems.specs.Exactly.{order_exactly, level_exactly, best_exactly, next_exactly, count_exactly}
+use Rattle.ask_theorems.specs.Exactly.{order_exactly, count_exactly}
+use Rattle.ask_theorems.proofs.Exactly.{level_exactly, best_exactly, next_exactly}
 use Rattle.runs.specs.Statements.{Run, Start, start_of, Healthy, NoDamage, NeverDamaged}
 use Rattle.runs.specs.Orderly.{Orderly}
 use Rattle.runs.specs.Healthy.{healthy_shaped, healthy_orderly, healthy_reached}

@@ -17,7 +17,7 @@ use Rattle.moves.specs.Lawful.{Bytes}
 use Rattle.moves.specs.Moves.{Moved}
 use Rattle.moves.specs.Facts.{Facts}
 use Rattle.moves.specs.Judged.{facts}
-use Rattle.moves.specs.Moved.{moved}
+use Rattle.moves.proofs.Moved.{moved}
 use Rattle.moves.specs.Reads.{lawful}
 use Rattle.runs.specs.Statements.{Start, Healthy}
 use Rattle.runs.specs.Healthy.{Fitting, healthy_shaped, healthy_sized}

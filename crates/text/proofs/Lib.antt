@@ -1,3 +1,4 @@
 pub mod Marks
 pub mod Run
 pub mod Swar
+pub mod TextMeaning

@@ -1,4 +1,3 @@
 pub mod Faults
 pub mod FaultSum
-pub mod FaultSumLaws
 pub mod WellFormed

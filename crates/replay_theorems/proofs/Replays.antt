@@ -8,8 +8,8 @@ use Rattle.feed.specs.FeedLaws.{behind_twice}
 use Rattle.replay_theorems.specs.Replay.{fresh_day, ended, replayed}
 use Rattle.replay_theorems.specs.Statements.{Went, begins, reads, feeds, Replays}
 use Rattle.replay_theorems.specs.RanLaws.{throughout, throughout_stops, cut}
-use Rattle.replay_theorems.specs.Kept.{readable_always}
-use Rattle.replay_theorems.specs.Listing.{all_listed}
+use Rattle.replay_theorems.proofs.Kept.{readable_always}
+use Rattle.replay_theorems.proofs.Listing.{all_listed}
 
 went_all : {s held out : List ℕ} {day : Day} → Went s held day out → (t : List ℕ)
     → throughout (s ++ t) fresh_day ≡ record_behind out (throughout (held ++ t) day)

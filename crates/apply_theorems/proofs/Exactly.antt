@@ -24,7 +24,8 @@ use Rattle.apply.specs.Apply.{After, concluded, applied, number_of}
 use Rattle.apply.specs.ApplyLaws.{bad_shapes, unread, judgement}
 use Rattle.apply_theorems.specs.Statements.{Earned, Judged, Given, ApplyExactly}
 use Rattle.apply_theorems.specs.Means.{shaped_good, shaped_unique, good_shaped}
-use Rattle.apply_theorems.specs.Earns.{step_number, earned, earned_unique}
+use Rattle.apply_theorems.specs.Earns.{step_number, earned_unique}
+use Rattle.apply_theorems.proofs.Earns.{earned}
 
 -- ---- a refusal of reading has a number that is not 0
 

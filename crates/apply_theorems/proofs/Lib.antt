@@ -1,0 +1,3 @@
+pub mod Earns
+pub mod Exactly
+pub mod Touched

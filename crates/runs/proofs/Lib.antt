@@ -1,0 +1,3 @@
+pub mod LevelRuns
+pub mod OrderRuns
+pub mod OwnOnly
