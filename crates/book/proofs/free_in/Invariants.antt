@@ -1,4 +1,5 @@
 -- `book::free_in` meets its contract. The loop's invariant, `Halved`: rest is w without its lowest i bits, none of which is 0.
+-- Assumes nothing.
 use Prim.Native.Nat.{◌-◌}
 use borrow.Author.Rules.{rules}
 use native.Mathlib.Omega.{arith}

@@ -1,4 +1,4 @@
--- `book::lowest_free` meets its contract. The loop's invariant: no slot of the map numbers below j is free. The measure is what is
+-- The goals that the check leaves. Assumes nothing.
 use Prim.Native.Nat.{ℕ, ◌-◌, ◌*◌, ◌≤◌, ◌<◌}
 use mathlib.Core.Path.{◌≡◌}
 use mathlib.Core.Bool.{false}

@@ -1,4 +1,5 @@
 -- `book::lowest_free` meets its contract. The loop's invariant: no slot of the map numbers below j is free. The measure is what is
+-- left of the map numbers. Assumes nothing.
 use Prim.Native.Nat.{ℕ, ◌-◌, ◌*◌, ◌≤◌, ◌<◌}
 use mathlib.Core.Path.{◌≡◌}
 use mathlib.Core.Bool.{false}

@@ -1,4 +1,5 @@
 -- `book::without_bit` meets its contract: what is taken off is 0, or 2 ^ i where the bit is 1 and w is at least that.
+-- Assumes nothing.
 use mathlib.Core.Logic.{⊎_elim}
 use native.Mathlib.Nat.{lt_of_le_of_lt}
 use native.Mathlib.Omega.{arith}
@@ -8,7 +9,6 @@ use borrow.Author.Rules.{rules}
 use Rattle.laws.specs.Definitions.{bit, clear_bit}
 use Rattle.book.proofs.without_bit.Goals as goal
 
--- Assumes nothing.
 taken-le : (w i : ℕ) → bit w i * 2 ^ i ≤ w
 taken-le w i = ⊎_elim (λ e. rw e (omega arith)) (λ e. rw e (omega (arith, pow-le i w e))) (bit_cases w i)
 

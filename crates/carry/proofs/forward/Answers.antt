@@ -1,4 +1,4 @@
--- The loop's invariant: the first i bytes are those from `from` on, and the others are as they were. Assumes nothing.
+-- The goals that the check leaves. Assumes nothing.
 use mathlib.Core.Path.{◌≡◌, refl, ap, ◌∙◌}
 use native.Mathlib.Omega.{arith}
 use Prim.Native.Nat.{◌-◌, ◌≤◌}

@@ -1,4 +1,4 @@
--- The loop's invariant, `Below`: n is the count of the live slots of the map numbers below j. Assumes nothing.
+-- The goals that the check leaves. Assumes nothing.
 use native.Mathlib.Omega.{arith}
 use Prim.Native.Nat.{◌-◌, ◌*◌}
 use borrow.Author.Rules.{rules}

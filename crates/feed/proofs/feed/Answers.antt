@@ -1,4 +1,4 @@
--- The loop's invariant, `Going`: the whole run is the records so far and then the run of what is left. Assumes nothing.
+-- The goals that the check leaves. Assumes nothing.
 use Rattle.std.proofs.Common.{◌≡◌, ◌-◌, length, sym, refl, ap, ◌∙◌, arith, rules}
 use Rattle.blocks.specs.BlockLaws.{FoundBlock, found, missing}
 use Rattle.feed.specs.Feed.{FeedLeaves}

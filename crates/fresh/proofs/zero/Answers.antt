@@ -1,4 +1,4 @@
--- The loop's invariant: the first i numbers are 0, and the others are as they were. Assumes nothing.
+-- The goals that the check leaves. Assumes nothing.
 use borrow.Author.Fill.{fill_none, fill_more}
 use mathlib.Core.List.{◌++◌, append-nil}
 use mathlib.Core.Path.{◌≡◌, ◌∙◌}

@@ -1,4 +1,4 @@
--- The loop's invariant, `Filling`: the first bytes of out are the records shown so far, and the rest of it is as it came. The
+-- The goals that the check leaves. Assumes nothing.
 use Prim.Native.Nat.{◌-◌}
 use borrow.Author.Rules.{rules}
 use mathlib.Core.Path.{sym, ◌∙◌}

@@ -1,4 +1,4 @@
--- The loop's invariant: what the search from the rung comes to is what it comes to from the first one. The measure is what is left of
+-- The goals that the check leaves. Assumes nothing.
 use Prim.Native.Nat.{◌-◌}
 use borrow.Author.Rules.{rules}
 use mathlib.Core.Path.{◌≡◌, refl, sym, ◌∙◌}

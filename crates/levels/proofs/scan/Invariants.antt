@@ -1,4 +1,5 @@
 -- `levels::scan` meets its contract. The loop's invariant: `best` is what was seen in the slots of the map numbers below j.
+-- The measure is what is left of the map numbers. Assumes nothing.
 use Rattle.std.proofs.Common.{◌≡◌, ◌-◌, ◌*◌, ◌≤◌, sym, ◌∙◌, rules}
 use Rattle.levels.specs.declared.Pass.TheVariants as pass
 use Rattle.levels.specs.Visits.{visited}

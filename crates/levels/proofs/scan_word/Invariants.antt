@@ -1,4 +1,5 @@
 -- `levels::scan_word` meets its contract. The loop's invariant: `Sweep`, what was seen so far and m with the one bits of the slots
+-- that are left, and the room is that of the best so far. The measure is m. Assumes nothing.
 use Rattle.std.proofs.Common.{◌≡◌, sym, ap, ◌∙◌, ⊎_elim, arith, rules}
 use lib.Count.{trailing_le}
 use Rattle.levels.specs.declared.Best.{Best}

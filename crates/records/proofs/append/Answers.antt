@@ -1,4 +1,4 @@
--- The loop copies the row: what stands is out with the row's first i bytes from `at` on. Assumes nothing.
+-- The goals that the check leaves. Assumes nothing.
 use mathlib.Core.Path.{◌≡◌, refl, ap, ◌∙◌}
 use native.Mathlib.Numerals.{add-one}
 use native.Mathlib.Omega.{arith}

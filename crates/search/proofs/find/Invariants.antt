@@ -1,4 +1,5 @@
 -- `search::find` meets its contract. The loop's invariant: no slot of the map numbers below j is live and holds `want`.
+-- The measure is what is left of the map numbers. Assumes nothing.
 use Prim.Native.Nat.{ℕ, ◌*◌, ◌-◌, ◌≤◌, ◌<◌}
 use mathlib.Core.Path.{◌≡◌}
 use mathlib.Core.Bool.{false}

@@ -1,4 +1,5 @@
 -- `search::find_dense` meets its contract. The loop's invariant: i is a multiple of 8, and no slot of the map number below i is live
+-- and holds `want`. The measure is what is left of 64. Assumes nothing.
 use Prim.Native.Nat.{ℕ, ◌-◌, ◌%◌, ◌≤◌, ◌<◌}
 use mathlib.Core.Path.{◌≡◌}
 use mathlib.Core.Bool.{false}

@@ -1,4 +1,5 @@
 -- `search::find_from` meets its contract. The loop's invariant: no slot of the map number below t is live and holds `want`.
+-- The measure is what is left of 64. Assumes nothing.
 use Prim.Native.Nat.{ℕ, ◌-◌, ◌≤◌, ◌<◌}
 use mathlib.Core.Path.{◌≡◌, sym, ◌∙◌}
 use mathlib.Core.Bool.{false}

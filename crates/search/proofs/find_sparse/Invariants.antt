@@ -1,4 +1,5 @@
 -- `search::find_sparse` meets its contract. The loop's invariant, `Scan`: m is the map number with the bits taken off that have
+-- been looked at, none of which passed. The measure is m. Assumes nothing.
 use native.Mathlib.Omega.{arith}
 use borrow.Author.Rules.{rules}
 use lib.Count.{trailing_le}

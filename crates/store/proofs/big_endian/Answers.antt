@@ -1,4 +1,4 @@
--- The loop goes from the last byte to the first: what is to stand is the bytes of the rest of the number, and then what stands from i on.
+-- The goals that the check leaves. Assumes nothing.
 use mathlib.Core.Path.{◌≡◌, refl, sym, ap, ◌∙◌}
 use mathlib.Core.List.{◌++◌}
 use native.Mathlib.Omega.{arith}

@@ -1,4 +1,4 @@
--- The loop's invariant: as many bytes are unpadded of the symbol as of its first n bytes, which are left. Assumes nothing.
+-- The goals that the check leaves. Assumes nothing.
 use native.Mathlib.Omega.{arith}
 use mathlib.Core.Path.{◌≡◌, refl}
 use Rattle.symbol.specs.Symbol.{unpadded}

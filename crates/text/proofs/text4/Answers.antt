@@ -1,4 +1,5 @@
 -- `text::text4` meets its contract. The number that it hands to `text8` is its own with four spaces behind it, and spaces behind
+-- a field change nothing. Assumes nothing.
 use mathlib.Core.Path.{ap, ◌∙◌}
 use native.Mathlib.Omega.{arith}
 use borrow.Author.Rules.{rules}

@@ -1,4 +1,5 @@
 -- `text::text8` meets its contract. Its numbers are those of `Tests 7 v`, which a text passes and nothing else does; and where the
+-- first test passes, no byte is above 127, so that the sums fit. Assumes nothing.
 use native.Mathlib.Omega.{arith}
 use lib.Bits.{and_le_l}
 use Rattle.text.proofs.Marks.{rep}
