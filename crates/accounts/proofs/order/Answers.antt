@@ -1,5 +1,4 @@
 -- What the search and the slot answered fixes what is seen, and each way through is its answer. Assumes nothing.
-use borrow.Author.Rules.{rules}
 use mathlib.Core.Path.{sym, ap, ◌∙◌}
 use native.Mathlib.Omega.{arith}
 use Rattle.book.specs.Finds.{found_slot}
@@ -27,8 +26,7 @@ returns-in_default c =
 
 pub held_at-held-requires : goal.held_at-held-requires
 held_at-held-requires c =
-    let a = c.args in
-    (
+    let a = c.args in (
       words_sized a.book.now _ (sym c.words_of-k.ensures) (omega (arith, c.if-k-eq0.false)),
       (found_slot a.book.now _ a.reference.0 c.in-At.slot (sym c.find-found.ensures ∙ c.in-At.is)).0,
     )

@@ -1,6 +1,4 @@
 -- Each way is a case of `applied`: SHAPE, bytes that are refused, or a message that is judged. Assumes nothing.
-use borrow.Author.Rules.{rules}
-use borrow.Author.Tests.{not-true, not-false}
 use mathlib.Core.Path.{sym, ◌∙◌}
 use native.Mathlib.Omega.{arith}
 use Rattle.book.specs.Shape.{words_sized}

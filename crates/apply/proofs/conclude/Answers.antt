@@ -1,5 +1,4 @@
 -- Each arm is the outcome of its step. Assumes nothing.
-use borrow.Author.Rules.{rules}
 use mathlib.Core.Path.{sym, ap}
 use Rattle.apply.specs.Apply.{concluded}
 use Rattle.apply.proofs.conclude.Goals as goal

@@ -4,7 +4,6 @@ use native.Mathlib.Omega.{arith}
 use lib.ListN.{length, length-set}
 use Rattle.book.specs.Book.{clear_slot}
 use Rattle.book.specs.Slots.{four-length}
-use borrow.Author.Rules.{rules}
 use Rattle.book.proofs.clear_slot.Goals as goal
 
 pub put_four-requires : goal.put_four-requires

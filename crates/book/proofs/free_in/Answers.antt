@@ -1,8 +1,6 @@
 -- The goals that the check leaves. Assumes nothing.
-use Prim.Native.Nat.{◌-◌}
-use borrow.Author.Rules.{rules}
 use native.Mathlib.Omega.{arith}
-use Rattle.book.specs.Words.{Halved, word_whole, half, zero_at, no_zero}
+use Rattle.book.specs.Words.{word_whole, half, zero_at, no_zero}
 use Rattle.book.proofs.free_in.Goals as goal
 
 pub loop-i-init : goal.loop-i-init

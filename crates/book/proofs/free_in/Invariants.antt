@@ -1,9 +1,7 @@
 -- `book::free_in` meets its contract. The loop's invariant, `Halved`: rest is w without its lowest i bits, none of which is 0.
 -- Assumes nothing.
 use Prim.Native.Nat.{◌-◌}
-use borrow.Author.Rules.{rules}
-use native.Mathlib.Omega.{arith}
-use Rattle.book.specs.Words.{Halved, word_whole, half, zero_at, no_zero}
+use Rattle.book.specs.Words.{Halved}
 use Rattle.book.proofs.free_in.Given as goal
 
 abbrev pub invariant-loop-i : goal.invariant-loop-i

@@ -1,11 +1,7 @@
 -- The goals that the check leaves. Assumes nothing.
-use Prim.Native.Nat.{ℕ, ◌-◌, ◌*◌, ◌≤◌, ◌<◌}
-use mathlib.Core.Path.{◌≡◌}
-use mathlib.Core.Bool.{false}
 use native.Mathlib.Nat.{not-suc-le-zero}
 use native.Mathlib.Omega.{arith}
 use borrow.Author.Rules.{rules}
-use Rattle.book.specs.Book.{is_free}
 use Rattle.book.specs.Finds.{free_none}
 use Rattle.book.specs.Words.{free_word_at, free_word_more}
 use Rattle.book.proofs.lowest_free.Goals as goal

@@ -3,7 +3,6 @@ use mathlib.Core.Path.{ap, ◌∙◌}
 use Prim.Native.Nat.{ℕ, ◌%◌, ◌^◌}
 use native.Mathlib.Nat.{one-mul, mod-eq_of_lt}
 use lib.Pow.{pow-lt}
-use borrow.Author.Rules.{rules}
 use Rattle.book.proofs.only_bit.Goals as goal
 
 pub returns : goal.returns

@@ -3,7 +3,6 @@ use mathlib.Core.Path.{refl}
 use native.Mathlib.Omega.{arith}
 use lib.ListN.{length-set}
 use Rattle.book.specs.Book.{four}
-use borrow.Author.Rules.{rules}
 use Rattle.book.proofs.put_four.Goals as goal
 
 pub bounds-book-a-2 : goal.bounds-book-a-2

@@ -3,7 +3,6 @@ use mathlib.Core.Path.{ap, ◌∙◌}
 use Prim.Native.Nat.{ℕ}
 use lib.Bits.{bit_or}
 use Rattle.laws.specs.Bit.{or-bit}
-use borrow.Author.Rules.{rules}
 use Rattle.book.proofs.with_bit.Goals as goal
 
 pub returns : goal.returns

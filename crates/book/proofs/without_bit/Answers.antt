@@ -5,7 +5,6 @@ use native.Mathlib.Nat.{lt_of_le_of_lt}
 use native.Mathlib.Omega.{arith}
 use Prim.Native.Nat.{ℕ, ◌*◌, ◌^◌, ◌≤◌}
 use Rattle.laws.specs.Bit.{bit_cases, pow-le}
-use borrow.Author.Rules.{rules}
 use Rattle.laws.specs.Definitions.{bit, clear_bit}
 use Rattle.book.proofs.without_bit.Goals as goal
 

@@ -1,8 +1,8 @@
 -- The goals that the check leaves. Assumes nothing.
 use mathlib.Core.Path.{◌≡◌, refl, ap, ◌∙◌}
 use native.Mathlib.Omega.{arith}
-use Prim.Native.Nat.{◌-◌, ◌≤◌}
-use lib.ListN.{length, length-set}
+use Prim.Native.Nat.{◌-◌}
+use lib.ListN.{length-set}
 use Rattle.carry.proofs.Laws.{moved, one_more}
 use Rattle.carry.proofs.forward.Goals as goal
 

@@ -1,9 +1,8 @@
 -- The loop's invariant: the first i bytes are those from `from` on, and the others are as they were. Assumes nothing.
-use mathlib.Core.Path.{◌≡◌, refl, ap, ◌∙◌}
-use native.Mathlib.Omega.{arith}
+use mathlib.Core.Path.{◌≡◌}
 use Prim.Native.Nat.{◌-◌, ◌≤◌}
-use lib.ListN.{length, length-set}
-use Rattle.carry.proofs.Laws.{moved, one_more}
+use lib.ListN.{length}
+use Rattle.carry.proofs.Laws.{moved}
 use Rattle.carry.proofs.forward.Given as goal
 
 abbrev pub invariant-loop-i : goal.invariant-loop-i

@@ -1,5 +1,4 @@
 -- Where there are fewer than n bytes the first n are all. Assumes nothing.
-use borrow.Author.Rules.{rules}
 use mathlib.Core.Path.{sym}
 use native.Mathlib.Omega.{arith}
 use lib.Seq.{length-take-le, take_all}

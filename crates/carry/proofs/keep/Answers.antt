@@ -1,5 +1,4 @@
 -- Each way is what the two tests decide. Assumes nothing.
-use borrow.Author.Rules.{rules}
 use native.Mathlib.Omega.{arith}
 use Rattle.carry.proofs.Laws.{keeps_crossed, keeps_beyond, keeps_there}
 use Rattle.carry.proofs.keep.Goals as goal

@@ -1,13 +1,12 @@
 -- The goals that the check leaves. Assumes nothing.
 use native.Mathlib.Omega.{arith}
-use Prim.Native.Nat.{◌-◌, ◌*◌}
-use borrow.Author.Rules.{rules}
+use Prim.Native.Nat.{◌*◌}
 use lib.Count.{ones-le}
 use mathlib.Core.Path.{ap, ◌∙◌}
 use Rattle.laws.specs.Definitions.{sum_to}
 use Rattle.book.specs.Book.{live}
 use Rattle.census.specs.Census.{live_count}
-use Rattle.census.proofs.Laws.{Below, start, more, few}
+use Rattle.census.proofs.Laws.{start, more, few}
 use Rattle.census.proofs.count_live.Goals as goal
 
 pub loop-j-init : goal.loop-j-init

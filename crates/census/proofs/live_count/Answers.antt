@@ -1,5 +1,4 @@
 -- Each way is what the test of the shape decides. Assumes nothing.
-use borrow.Author.Rules.{rules}
 use mathlib.Core.Path.{sym, ap, ◌∙◌}
 use native.Mathlib.Omega.{arith}
 use Rattle.book.specs.Shape.{words_sized}

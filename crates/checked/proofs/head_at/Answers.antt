@@ -1,5 +1,4 @@
 -- Each branch is what its test decides. Assumes nothing.
-use borrow.Author.Rules.{rules}
 use native.Mathlib.Omega.{arith}
 use Rattle.laws.specs.Field.{field}
 use Rattle.wellformed.specs.Faults.{time_early, time_late}

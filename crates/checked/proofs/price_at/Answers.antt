@@ -1,5 +1,4 @@
 -- Each case of the admission is what the price offered comes to. Assumes nothing.
-use borrow.Author.Rules.{rules}
 use native.Mathlib.Omega.{arith}
 use mathlib.Core.Path.{◌≡◌}
 use Rattle.laws.specs.Field.{field}

@@ -1,5 +1,4 @@
 -- The fault of the byte that was read is the field's. Assumes nothing.
-use borrow.Author.Rules.{rules}
 use native.Mathlib.Omega.{arith}
 use mathlib.Core.Path.{◌≡◌}
 use Prim.Native.Nat.{◌*◌}

@@ -1,5 +1,4 @@
 -- The test that is made of both letters at once says the fault. Assumes nothing.
-use borrow.Author.Rules.{rules}
 use native.Mathlib.Omega.{arith}
 use Rattle.wellformed.specs.Faults.{printable_is, printable_is_not}
 use Rattle.checked.proofs.printable_faults.Goals as goal

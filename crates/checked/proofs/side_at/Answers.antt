@@ -1,5 +1,4 @@
 -- What is held of the byte that was read, and its fault, are the field's. Assumes nothing.
-use borrow.Author.Rules.{rules}
 use native.Mathlib.Omega.{arith}
 use mathlib.Core.Path.{◌≡◌, ap, ◌∙◌}
 use Prim.Native.Nat.{◌*◌}

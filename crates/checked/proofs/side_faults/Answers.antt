@@ -1,5 +1,4 @@
 -- What the test of a side says is its fault. Assumes nothing.
-use borrow.Author.Rules.{rules}
 use mathlib.Core.Path.{sym, ◌∙◌}
 use native.Mathlib.Omega.{arith}
 use Rattle.laws.specs.Bools.{none_fault, some_fault}

@@ -1,5 +1,4 @@
 -- Each way through the checks is the verdict that its findings lead to. Assumes nothing.
-use borrow.Author.Rules.{rules}
 use mathlib.Core.Path.{refl, sym, ◌∙◌}
 use native.Mathlib.Omega.{arith}
 use Rattle.directory.specs.DirectoryLaws.{entry_means}

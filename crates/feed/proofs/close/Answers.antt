@@ -1,5 +1,5 @@
 -- Nothing left is no message; bytes left are one that is refused. Assumes nothing.
-use Rattle.std.proofs.Common.{arith, rules}
+use Rattle.std.proofs.Common.{arith}
 use Rattle.feed.proofs.Laws.{nothing_left, cut_short}
 use Rattle.feed.proofs.close.Goals as goal
 

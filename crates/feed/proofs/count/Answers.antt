@@ -1,5 +1,5 @@
 -- Each way is a case of the refusal's count. Assumes nothing.
-use Rattle.std.proofs.Common.{arith, rules}
+use Rattle.std.proofs.Common.{arith}
 use Rattle.feed.proofs.Laws.{accepted_counted, refused_counted}
 use Rattle.feed.proofs.count.Goals as goal
 

@@ -1,8 +1,8 @@
 -- The goals that the check leaves. Assumes nothing.
-use Rattle.std.proofs.Common.{◌≡◌, ◌-◌, length, sym, refl, ap, ◌∙◌, arith, rules}
-use Rattle.blocks.specs.BlockLaws.{FoundBlock, found, missing}
+use Rattle.std.proofs.Common.{sym, refl, ap, ◌∙◌, arith}
+use Rattle.blocks.specs.BlockLaws.{found, missing}
 use Rattle.feed.specs.Feed.{FeedLeaves}
-use Rattle.feed.proofs.Loop.{Going, start, full, part, goes}
+use Rattle.feed.proofs.Loop.{start, full, part, goes}
 use Rattle.feed.proofs.feed.Goals as goal
 
 pub loop-out-init : goal.loop-out-init

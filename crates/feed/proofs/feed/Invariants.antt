@@ -1,8 +1,6 @@
 -- The loop's invariant, `Going`: the whole run is the records so far and then the run of what is left. Assumes nothing.
-use Rattle.std.proofs.Common.{◌≡◌, ◌-◌, length, sym, refl, ap, ◌∙◌, arith, rules}
-use Rattle.blocks.specs.BlockLaws.{FoundBlock, found, missing}
-use Rattle.feed.specs.Feed.{FeedLeaves}
-use Rattle.feed.proofs.Loop.{Going, start, full, part, goes}
+use Rattle.std.proofs.Common.{◌≡◌, ◌-◌, length}
+use Rattle.feed.proofs.Loop.{Going}
 use Rattle.feed.proofs.feed.Given as goal
 
 abbrev pub invariant-loop-out : goal.invariant-loop-out

@@ -1,5 +1,4 @@
 -- The message's number is that of its outcome, so it is counted and told as the definition says. Assumes nothing.
-use Rattle.std.proofs.Common.{rules}
 use Rattle.feed.specs.Feed.{FeedLeaves}
 use Rattle.feed.proofs.Laws.{one}
 use Rattle.feed.proofs.message.Goals as goal

@@ -1,5 +1,5 @@
 -- An accepted message's record is none; a refusal's is the one that was laid out. Assumes nothing.
-use Rattle.std.proofs.Common.{length, sym, ap, ◌∙◌, arith, rules}
+use Rattle.std.proofs.Common.{length, sym, ap, ◌∙◌, arith}
 use Rattle.records.specs.Append.{appended, reach}
 use Rattle.records.specs.RecordLaws.{length-refusal_record}
 use Rattle.feed.proofs.Laws.{none_reached, none_appended, accepted_told, refused_told}

@@ -1,6 +1,4 @@
 -- Each way is what the tests of the two shapes decide. Assumes nothing.
-use borrow.Author.Rules.{rules}
-use borrow.Author.Tests.{not-true, not-false}
 use mathlib.Core.Path.{sym, ◌∙◌}
 use native.Mathlib.Omega.{arith}
 use Rattle.fresh.specs.FreshLaws.{bad_directory, bad_book, good_both, comes_refused, comes_fresh}

@@ -1,10 +1,9 @@
 -- The goals that the check leaves. Assumes nothing.
 use borrow.Author.Fill.{fill_none, fill_more}
-use mathlib.Core.List.{◌++◌, append-nil}
+use mathlib.Core.List.{append-nil}
 use mathlib.Core.Path.{◌≡◌, ◌∙◌}
 use native.Mathlib.Omega.{arith}
-use Prim.Native.Nat.{◌+◌, ◌-◌, ◌≤◌}
-use lib.ListN.{length, replicate, drop, length-set}
+use lib.ListN.{length, length-set}
 use lib.Seq.{drop-length}
 use Rattle.fresh.proofs.zero.Goals as goal
 

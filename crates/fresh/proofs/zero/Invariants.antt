@@ -1,11 +1,8 @@
 -- The loop's invariant: the first i numbers are 0, and the others are as they were. Assumes nothing.
-use borrow.Author.Fill.{fill_none, fill_more}
-use mathlib.Core.List.{◌++◌, append-nil}
-use mathlib.Core.Path.{◌≡◌, ◌∙◌}
-use native.Mathlib.Omega.{arith}
-use Prim.Native.Nat.{◌+◌, ◌-◌, ◌≤◌}
-use lib.ListN.{length, replicate, drop, length-set}
-use lib.Seq.{drop-length}
+use mathlib.Core.List.{◌++◌}
+use mathlib.Core.Path.{◌≡◌}
+use Prim.Native.Nat.{◌-◌, ◌≤◌}
+use lib.ListN.{length, replicate, drop}
 use Rattle.fresh.proofs.zero.Given as goal
 
 abbrev pub invariant-loop-i : goal.invariant-loop-i

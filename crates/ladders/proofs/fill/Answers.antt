@@ -1,11 +1,8 @@
 -- The goals that the check leaves. Assumes nothing.
-use Prim.Native.Nat.{◌-◌}
-use borrow.Author.Rules.{rules}
 use mathlib.Core.Path.{sym, ◌∙◌}
 use native.Mathlib.Omega.{arith}
-use lib.ListN.{length}
 use Rattle.ladders.specs.Ladders.{first_of}
-use Rattle.ladders.proofs.Filling.{Filling, found_lt, start, less, more, full, end}
+use Rattle.ladders.proofs.Filling.{found_lt, start, less, more, full, end}
 use Rattle.ladders.proofs.fill.Goals as goal
 
 pub shape_of-out-in_default : goal.shape_of-out-in_default

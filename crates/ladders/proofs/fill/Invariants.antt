@@ -1,12 +1,9 @@
 -- The loop's invariant, `Filling`: the first bytes of out are the records shown so far, and the rest of it is as it came. The
 -- measure is the room that is left. Assumes nothing.
 use Prim.Native.Nat.{◌-◌}
-use borrow.Author.Rules.{rules}
-use mathlib.Core.Path.{sym, ◌∙◌}
-use native.Mathlib.Omega.{arith}
 use lib.ListN.{length}
 use Rattle.ladders.specs.Ladders.{first_of}
-use Rattle.ladders.proofs.Filling.{Filling, found_lt, start, less, more, full, end}
+use Rattle.ladders.proofs.Filling.{Filling}
 use Rattle.ladders.proofs.fill.Given as goal
 
 abbrev pub invariant-loop-out : goal.invariant-loop-out

@@ -1,8 +1,5 @@
 -- The goals that the check leaves. Assumes nothing.
-use Prim.Native.Nat.{◌-◌}
-use borrow.Author.Rules.{rules}
-use mathlib.Core.Path.{◌≡◌, refl, sym, ◌∙◌}
-use Rattle.ladders.specs.Search.{next_from}
+use mathlib.Core.Path.{refl, sym, ◌∙◌}
 use Rattle.ladders.proofs.Laws.{search_done, search_refused, search_on, search_found}
 use Rattle.ladders.proofs.next_from.Goals as goal
 

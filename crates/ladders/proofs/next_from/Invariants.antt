@@ -1,10 +1,8 @@
 -- The loop's invariant: what the search from the rung comes to is what it comes to from the first one. The measure is what is left of
 -- the rungs. Assumes nothing.
 use Prim.Native.Nat.{◌-◌}
-use borrow.Author.Rules.{rules}
-use mathlib.Core.Path.{◌≡◌, refl, sym, ◌∙◌}
+use mathlib.Core.Path.{◌≡◌}
 use Rattle.ladders.specs.Search.{next_from}
-use Rattle.ladders.proofs.Laws.{search_done, search_refused, search_on, search_found}
 use Rattle.ladders.proofs.next_from.Given as goal
 
 abbrev pub invariant-loop-rung : goal.invariant-loop-rung

@@ -1,5 +1,4 @@
 -- The record is that of the rung's side and locate, and it is appended. Assumes nothing.
-use borrow.Author.Rules.{rules}
 use mathlib.Core.Path.{sym, ap, ◌∙◌}
 use lib.ListN.{length}
 use Rattle.records.specs.RecordLaws.{length-level_record}

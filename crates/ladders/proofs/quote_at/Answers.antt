@@ -1,5 +1,4 @@
 -- What a side is asked by its letter is the rung's question. Assumes nothing.
-use borrow.Author.Rules.{rules}
 use mathlib.Core.Path.{refl}
 use Rattle.ladders.proofs.Laws.{asks}
 use Rattle.ladders.proofs.quote_at.Goals as goal

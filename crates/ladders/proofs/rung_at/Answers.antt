@@ -1,5 +1,4 @@
 -- Each branch is what its test decides of the side, whose ticks are counted from either end of the prices. Assumes nothing.
-use borrow.Author.Rules.{rules}
 use mathlib.Core.Path.{refl}
 use Rattle.ladders.proofs.Laws.{buy_rung, sell_rung}
 use Rattle.ladders.proofs.rung_at.Goals as goal

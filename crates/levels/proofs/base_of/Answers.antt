@@ -1,5 +1,5 @@
 -- The base is asked for only where the ticks begin below 2^32. Assumes nothing.
-use Rattle.std.proofs.Common.{arith, rules}
+use Rattle.std.proofs.Common.{arith}
 use Rattle.levels.specs.Glances.{Based}
 use Rattle.levels.proofs.base_of.Goals as goal
 

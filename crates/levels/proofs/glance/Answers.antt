@@ -1,5 +1,5 @@
 -- A slot's numbers are weighed, whatever its reference is. Assumes nothing.
-use Rattle.std.proofs.Common.{ap, ◌∙◌, rules}
+use Rattle.std.proofs.Common.{ap, ◌∙◌}
 use Rattle.book.specs.Book.{number_at}
 use Rattle.orders.specs.Order.{held}
 use Rattle.slots.specs.Stored.{held_at}

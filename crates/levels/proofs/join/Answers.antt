@@ -1,5 +1,5 @@
 -- Each branch is the case of `joined` that its test decides. Assumes nothing.
-use Rattle.std.proofs.Common.{arith, rules, le-ltb, lt-ltb, eq-eqb}
+use Rattle.std.proofs.Common.{arith, le-ltb, lt-ltb, eq-eqb}
 use Rattle.levels.proofs.join.Goals as goal
 
 pub returns-then-ticks-best : goal.returns-then-ticks-best

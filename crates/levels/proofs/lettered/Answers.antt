@@ -1,5 +1,4 @@
 -- The usual letters pass. Assumes nothing.
-use Rattle.std.proofs.Common.{rules}
 use Rattle.levels.specs.Letters.{letters_pass, usual_letters}
 use Rattle.levels.proofs.lettered.Goals as goal
 

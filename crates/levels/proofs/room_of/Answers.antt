@@ -1,5 +1,5 @@
 -- The lesser of three numbers without the first tick. Assumes nothing.
-use Rattle.std.proofs.Common.{◌≡◌, ◌+◌, min, refl, arith, rules}
+use Rattle.std.proofs.Common.{refl, arith}
 use Rattle.levels.specs.Glances.{room_of}
 use Rattle.levels.specs.Compare.{room-end}
 use Rattle.levels.proofs.room_of.Goals as goal

@@ -1,7 +1,5 @@
 -- The goals that the check leaves. Assumes nothing.
-use Rattle.std.proofs.Common.{◌≡◌, ◌-◌, ◌*◌, ◌≤◌, sym, ◌∙◌, rules}
-use Rattle.levels.specs.declared.Pass.TheVariants as pass
-use Rattle.levels.specs.Visits.{visited}
+use Rattle.std.proofs.Common.{sym, ◌∙◌, rules}
 use Rattle.levels.specs.VisitLaws.{visit_none, unsound_ends, visit_all}
 use Rattle.levels.proofs.scan.Goals as goal
 

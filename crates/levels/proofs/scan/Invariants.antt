@@ -1,9 +1,8 @@
 -- `levels::scan` meets its contract. The loop's invariant: `best` is what was seen in the slots of the map numbers below j.
 -- The measure is what is left of the map numbers. Assumes nothing.
-use Rattle.std.proofs.Common.{◌≡◌, ◌-◌, ◌*◌, ◌≤◌, sym, ◌∙◌, rules}
+use Rattle.std.proofs.Common.{◌≡◌, ◌-◌, ◌*◌, ◌≤◌}
 use Rattle.levels.specs.declared.Pass.TheVariants as pass
 use Rattle.levels.specs.Visits.{visited}
-use Rattle.levels.specs.VisitLaws.{visit_none, unsound_ends, visit_all}
 use Rattle.levels.proofs.scan.Given as goal
 
 abbrev pub invariant-loop-j : goal.invariant-loop-j

@@ -1,5 +1,5 @@
 -- The goals that the check leaves. Assumes nothing.
-use Rattle.std.proofs.Common.{◌≡◌, sym, ap, ◌∙◌, ⊎_elim, arith, rules}
+use Rattle.std.proofs.Common.{sym, ap, ◌∙◌, arith}
 use lib.Count.{trailing_le}
 use Rattle.levels.specs.declared.Best.{Best}
 use Rattle.levels.specs.declared.Pass.TheVariants as pass
@@ -49,7 +49,7 @@ loop-m-preserved c =
     let t = c.loop-m-test.true in
     let g = c.glance-glimpse.ensures in
     elim c.match-glimpse.branch [
-      in-Other v ↦ (
+      | in-Other v ↦ (
         sweep.sweep_more _ _ _ _ _ _ i.0 t _ (other_seen _ _ _ (sym g ∙ v.in-Other.is) ∙ ap pass.Seen (sym v.now-is)),
         v.room-is ∙ i.1 ∙ ap (λ (x : Best). room_of w x.ticks) (sym v.now-is),
       )

@@ -1,11 +1,7 @@
 -- `levels::scan_word` meets its contract. The loop's invariant: `Sweep`, what was seen so far and m with the one bits of the slots
 -- that are left, and the room is that of the best so far. The measure is m. Assumes nothing.
-use Rattle.std.proofs.Common.{◌≡◌, sym, ap, ◌∙◌, ⊎_elim, arith, rules}
-use lib.Count.{trailing_le}
-use Rattle.levels.specs.declared.Best.{Best}
-use Rattle.levels.specs.declared.Pass.TheVariants as pass
+use Rattle.std.proofs.Common.{◌≡◌}
 use Rattle.levels.specs.Glances.{room_of}
-use Rattle.levels.specs.GlanceLaws.{unsound_seen, other_seen, stands_seen}
 use Rattle.levels.specs.Sweep as sweep
 use Rattle.levels.proofs.scan_word.Given as goal
 

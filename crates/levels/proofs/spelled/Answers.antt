@@ -1,6 +1,5 @@
 -- Each test that fails is one that `lettered` asks, and past them it is the attribution's. Assumes nothing.
-use Rattle.std.proofs.Common.{sym, ◌∙◌, rules}
-use borrow.Author.Tests.{not-true, not-false}
+use Rattle.std.proofs.Common.{sym, ◌∙◌}
 use Rattle.laws.specs.Bools.{true_not_false}
 use Rattle.levels.specs.Letters.{letters_fail, spelled_last}
 use Rattle.levels.proofs.spelled.Goals as goal

@@ -1,5 +1,5 @@
 -- The two sides count their ticks from either end of the prices. Assumes nothing.
-use Rattle.std.proofs.Common.{refl, arith, rules}
+use Rattle.std.proofs.Common.{refl, arith}
 use Rattle.levels.proofs.ticks_to.Goals as goal
 
 pub returns-in-Buy : goal.returns-in-Buy

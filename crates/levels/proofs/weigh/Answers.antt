@@ -55,14 +55,14 @@ pub returns-then-past-room : goal.returns-then-past-room
 returns-then-past-room c = λ n0.
     stands_glance _ _ _ _ _ n0
     (weighed c.args.w c.args.n1 c.args.n2 c.args.n3 c.args.base _ _ c.if-n1-gt8589934596294967295.false c.if-n3-lt281474976710656.false c.if-added-gone.false
-        (sym c.lettered-good.ensures ∙ c.if-not-good.false) c.ranges.n1.fits c.ranges.n3.fits c.requires.0 c.ranges.base.fits c.wrapping_sub_u64-past.type_inv
-        c.ticks_to-ticks.ensures.0 c.wrapping_sub_u64-past.ensures.value)
+    (sym c.lettered-good.ensures ∙ c.if-not-good.false) c.ranges.n1.fits c.ranges.n3.fits c.requires.0 c.ranges.base.fits c.wrapping_sub_u64-past.type_inv
+    c.ticks_to-ticks.ensures.0 c.wrapping_sub_u64-past.ensures.value)
     (omega (arith, c.if-past-room.true, c.requires.1))
 
 pub returns : goal.returns
 returns c = λ n0.
     other_glance _ _ _ _ _ n0
     (weighed c.args.w c.args.n1 c.args.n2 c.args.n3 c.args.base _ _ c.if-n1-gt8589934596294967295.false c.if-n3-lt281474976710656.false c.if-added-gone.false
-        (sym c.lettered-good.ensures ∙ c.if-not-good.false) c.ranges.n1.fits c.ranges.n3.fits c.requires.0 c.ranges.base.fits c.wrapping_sub_u64-past.type_inv
-        c.ticks_to-ticks.ensures.0 c.wrapping_sub_u64-past.ensures.value)
+    (sym c.lettered-good.ensures ∙ c.if-not-good.false) c.ranges.n1.fits c.ranges.n3.fits c.requires.0 c.ranges.base.fits c.wrapping_sub_u64-past.type_inv
+    c.ticks_to-ticks.ensures.0 c.wrapping_sub_u64-past.ensures.value)
     (omega (arith, c.if-past-room.false, c.requires.1))

@@ -1,5 +1,4 @@
 -- Each case of the answer is written as the definition shows it. Assumes nothing.
-use borrow.Author.Rules.{rules}
 use mathlib.Core.Path.{sym, ap, ◌∙◌}
 use Rattle.numbers.specs.Shown.{answer_number, answer_row}
 use Rattle.numbers.proofs.write.Goals as goal

@@ -2,7 +2,6 @@
 use mathlib.Core.Path.{◌≡◌, sym}
 use Prim.Native.Nat.{ℕ}
 use native.Mathlib.Omega.{arith}
-use borrow.Author.Rules.{rules}
 use Rattle.laws.specs.Bools.{fault}
 use Rattle.text.specs.Text.{text, letters, letter}
 use Rattle.orders.proofs.attribution_fault.Goals as goal

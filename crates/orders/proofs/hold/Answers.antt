@@ -1,8 +1,6 @@
 -- Each test that fails is one that `sound` asks, and past them all the slot passes: the order is then made of what was read.
 -- Assumes nothing.
-use borrow.Author.Rules.{rules}
 use native.Mathlib.Omega.{arith}
-use borrow.Author.Tests.{not-true, not-false}
 use mathlib.Core.Path.{◌≡◌, sym, ◌∙◌}
 use Prim.Native.Nat.{◌/◌}
 use Rattle.laws.specs.Bools.{true_not_false}

@@ -1,5 +1,4 @@
 -- The sides' bytes are those that the definition shows. Assumes nothing.
-use borrow.Author.Rules.{rules}
 use Rattle.outcomes.proofs.two.Goals as goal
 
 pub returns : goal.returns

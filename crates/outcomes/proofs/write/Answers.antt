@@ -1,5 +1,4 @@
 -- Each case of the outcome is written as the definition shows it. Assumes nothing.
-use borrow.Author.Rules.{rules}
 use mathlib.Core.Path.{sym, ap, ◌∙◌}
 use Rattle.apply.specs.Apply.{number_of}
 use Rattle.outcomes.specs.Outcomes.{row_of, order_row}

@@ -1,5 +1,4 @@
 -- Each branch is what its tests decide. Assumes nothing.
-use borrow.Author.Rules.{rules}
 use borrow.Author.Tests.{eq-eqb, ne_eqb, le-leb, lt-leb}
 use native.Mathlib.Omega.{arith}
 use Rattle.parsed.specs.Parsed.{answer_of}

@@ -1,5 +1,4 @@
 -- Each way through the checks is the verdict that its findings lead to. Assumes nothing.
-use borrow.Author.Rules.{rules}
 use mathlib.Core.Path.{sym, ap, ◌∙◌}
 use Rattle.book.specs.Finds.{free_slot}
 use Rattle.decide.specs.declared.Step.TheVariants.{One}

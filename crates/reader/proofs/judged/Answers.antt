@@ -1,5 +1,4 @@
 -- Each arm is asked for bytes of its row's length, and its answer is its row's; what is no arm has no length. Assumes nothing.
-use borrow.Author.Rules.{rules}
 use native.Mathlib.Omega.{arith}
 use mathlib.Core.Path.{refl}
 use Rattle.layout.specs.Layout.{length_of}

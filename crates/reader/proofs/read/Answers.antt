@@ -1,5 +1,4 @@
 -- Each return is the case of the definition that its tests decide. Assumes nothing.
-use borrow.Author.Rules.{rules}
 use mathlib.Core.Path.{sym, ◌∙◌}
 use native.Mathlib.Omega.{arith}
 use Rattle.reader.specs.ReadLaws.{no_bytes, unknown_type, wrong-length, right_length}

@@ -1,5 +1,4 @@
 -- The message's number and then its refusal are stored behind the head, and the kind is put there last. Assumes nothing.
-use borrow.Author.Rules.{rules}
 use mathlib.Core.List.{append_assoc}
 use mathlib.Core.Path.{◌≡◌}
 use native.Mathlib.Omega.{arith}

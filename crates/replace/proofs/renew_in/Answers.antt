@@ -3,7 +3,6 @@ use mathlib.Core.Path.{sym, ◌∙◌}
 use Rattle.orders.specs.OrderLaws.{closed_fits}
 use Rattle.slots.specs.HeldLaws.{gone_fits}
 use Rattle.replace.proofs.Laws.{has_room, in_room, renews}
-use borrow.Author.Rules.{rules}
 use Rattle.replace.proofs.renew_in.Goals as goal
 
 pub remaining-shares-requires : goal.remaining-shares-requires

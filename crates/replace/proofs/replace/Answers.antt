@@ -1,7 +1,6 @@
 -- A refusal is the verdict's, and what comes of the order that is here is what comes of the message. Assumes nothing.
 use mathlib.Core.Path.{sym, ◌∙◌}
 use Rattle.slots.specs.ConcernedLaws.{turned-away, here, let_through, in_slot}
-use borrow.Author.Rules.{rules}
 use Rattle.replace.proofs.replace.Goals as goal
 
 pub replace_in-requires : goal.replace_in-requires

@@ -3,7 +3,6 @@ use mathlib.Core.Path.{sym, ap, ◌∙◌}
 use native.Mathlib.Omega.{arith}
 use Rattle.slots.specs.Stored.{is_at, is_live}
 use Rattle.replace.proofs.Laws.{itself, duplicate, replaces, started_whole}
-use borrow.Author.Rules.{rules}
 use Rattle.replace.proofs.replace_in.Goals as goal
 
 pub returns-then-new-original : goal.returns-then-new-original

@@ -1,5 +1,4 @@
 -- An account is written as the definition shows it. Assumes nothing.
-use borrow.Author.Rules.{rules}
 use mathlib.Core.Path.{sym, ap, ◌∙◌}
 use Rattle.replies.specs.Replies.{account_number, account_row}
 use Rattle.replies.proofs.account.Goals as goal

@@ -1,5 +1,4 @@
 -- A count is written as the definition shows it. Assumes nothing.
-use borrow.Author.Rules.{rules}
 use mathlib.Core.Path.{sym, ap}
 use Rattle.replies.specs.Replies.{count_number, count_row}
 use Rattle.replies.proofs.count.Goals as goal

@@ -1,5 +1,4 @@
 -- A level is written as the definition shows it. Assumes nothing.
-use borrow.Author.Rules.{rules}
 use mathlib.Core.Path.{sym, ap}
 use Rattle.replies.specs.Replies.{quote_number, quote_row}
 use Rattle.replies.proofs.quote.Goals as goal

@@ -3,12 +3,7 @@
 use Prim.Native.Nat.{ℕ, ◌*◌, ◌-◌, ◌≤◌, ◌<◌}
 use mathlib.Core.Path.{◌≡◌}
 use mathlib.Core.Bool.{false}
-use native.Mathlib.Nat.{not-suc-le-zero}
-use native.Mathlib.Omega.{arith}
-use borrow.Author.Rules.{rules}
 use Rattle.book.specs.Book.{holds}
-use Rattle.book.specs.Finds.{find_none}
-use Rattle.book.specs.Words.{word_at, word_more}
 use Rattle.search.proofs.find.Given as goal
 
 abbrev pub invariant-loop-j : goal.invariant-loop-j

@@ -1,12 +1,9 @@
 -- The goals that the check leaves. Assumes nothing.
-use Prim.Native.Nat.{ℕ, ◌-◌, ◌%◌, ◌≤◌, ◌<◌}
-use mathlib.Core.Path.{◌≡◌}
-use mathlib.Core.Bool.{false}
 use native.Mathlib.Omega.{arith}
 use borrow.Author.Rules.{rules}
 use borrow.Author.Count.{below_none}
 use Rattle.book.specs.Eights.{eight_more}
-use Rattle.book.specs.Words.{in_word, word_none}
+use Rattle.book.specs.Words.{word_none}
 use Rattle.search.proofs.find_dense.Goals as goal
 
 pub loop-i-init : goal.loop-i-init

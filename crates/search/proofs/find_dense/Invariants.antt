@@ -3,11 +3,7 @@
 use Prim.Native.Nat.{ℕ, ◌-◌, ◌%◌, ◌≤◌, ◌<◌}
 use mathlib.Core.Path.{◌≡◌}
 use mathlib.Core.Bool.{false}
-use native.Mathlib.Omega.{arith}
-use borrow.Author.Rules.{rules}
-use borrow.Author.Count.{below_none}
-use Rattle.book.specs.Eights.{eight_more}
-use Rattle.book.specs.Words.{in_word, word_none}
+use Rattle.book.specs.Words.{in_word}
 use Rattle.search.proofs.find_dense.Given as goal
 
 abbrev pub invariant-loop-i : goal.invariant-loop-i

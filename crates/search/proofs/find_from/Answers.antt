@@ -1,13 +1,11 @@
 -- The goals that the check leaves. Assumes nothing.
-use Prim.Native.Nat.{ℕ, ◌-◌, ◌≤◌, ◌<◌}
-use mathlib.Core.Path.{◌≡◌, sym, ◌∙◌}
-use mathlib.Core.Bool.{false}
+use mathlib.Core.Path.{sym, ◌∙◌}
 use mathlib.Core.Logic.{⊎_elim}
 use native.Mathlib.Omega.{arith}
 use borrow.Author.Rules.{rules}
 use borrow.Author.Count.{below_more}
 use Rattle.laws.specs.Bit.{bit_cases}
-use Rattle.book.specs.Words.{in_word, in_dead, in_other, in_yes, first_at, word_none}
+use Rattle.book.specs.Words.{in_dead, in_other, in_yes, first_at, word_none}
 use Rattle.search.proofs.find_from.Goals as goal
 use Rattle.search.proofs.find_from.Goals.{then-book-k+else-bit_of-eq1, else-book-k}
 
@@ -26,7 +24,7 @@ loop-t-preserved c = (
   search rules,
   below_more _ _ c.loop-t.invariant.1
       (elim c.if-book-k.branch [
-        then-book-k+else-bit_of-eq1 w ↦
+        | then-book-k+else-bit_of-eq1 w ↦
             in_dead _ _ _ _ _ c.loop-t-test.true
             (⊎_elim (λ z. z) (λ o. absurd (w.if-bit_of-eq1.false (w.bit_of.ensures ∙ o))) (bit_cases _ _))
         | else-book-k w ↦ in_other _ _ _ _ _ w.if-book-k.false

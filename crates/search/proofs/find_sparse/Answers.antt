@@ -1,10 +1,8 @@
 -- The goals that the check leaves. Assumes nothing.
 use native.Mathlib.Omega.{arith}
-use borrow.Author.Rules.{rules}
 use lib.Count.{trailing_le}
-use lib.ListN.{get_or}
 use Rattle.book.specs.Scan as scan
-use Rattle.book.specs.Words.{in_word, in_dead, in_other, in_yes}
+use Rattle.book.specs.Words.{in_dead, in_other, in_yes}
 use Rattle.search.proofs.find_sparse.Goals as goal
 
 pub loop-m-init : goal.loop-m-init

@@ -1,11 +1,8 @@
 -- `search::find_sparse` meets its contract. The loop's invariant, `Scan`: m is the map number with the bits taken off that have
 -- been looked at, none of which passed. The measure is m. Assumes nothing.
-use native.Mathlib.Omega.{arith}
-use borrow.Author.Rules.{rules}
-use lib.Count.{trailing_le}
 use lib.ListN.{get_or}
 use Rattle.book.specs.Scan as scan
-use Rattle.book.specs.Words.{in_word, in_dead, in_other, in_yes}
+use Rattle.book.specs.Words.{in_word}
 use Rattle.search.proofs.find_sparse.Given as goal
 
 abbrev pub invariant-loop-m : goal.invariant-loop-m

@@ -1,5 +1,4 @@
 -- The slot's four numbers hold what they hold. Assumes nothing.
-use borrow.Author.Rules.{rules}
 use Rattle.slots.specs.Stored.{held_at}
 use Rattle.slots.proofs.held_at.Goals as goal
 

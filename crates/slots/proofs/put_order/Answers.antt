@@ -1,5 +1,4 @@
 -- The numbers that are stored are the order's. Assumes nothing.
-use borrow.Author.Rules.{rules}
 use Rattle.slots.specs.Stored.{put_order}
 use Rattle.slots.proofs.put_order.Goals as goal
 

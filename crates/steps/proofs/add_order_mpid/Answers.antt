@@ -1,5 +1,4 @@
 -- What is placed is the order that the message starts. Assumes nothing.
-use borrow.Author.Rules.{rules}
 use mathlib.Core.Path.{refl}
 use Rattle.steps.proofs.Laws.{same_whole, same_start}
 use Rattle.steps.proofs.add_order_mpid.Goals as goal

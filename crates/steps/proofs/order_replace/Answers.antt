@@ -1,5 +1,4 @@
 -- What the call below ensures of what was found is what the message asks for. Assumes nothing.
-use borrow.Author.Rules.{rules}
 use Rattle.book.specs.Finds.{find_within}
 use Rattle.messages.specs.declared.Message.TheVariants.{OrderReplace}
 use Rattle.steps.specs.Asked.{asked}

@@ -1,5 +1,4 @@
 -- Each arm is what its kind of message asks for. Assumes nothing.
-use borrow.Author.Rules.{rules}
 use mathlib.Core.Path.{refl, ap}
 use Rattle.steps.specs.Asked.{asked}
 use Rattle.steps.proofs.Laws.{turned, noted, rested}

@@ -2,8 +2,8 @@
 use mathlib.Core.Path.{◌≡◌, refl, sym, ap, ◌∙◌}
 use mathlib.Core.List.{◌++◌}
 use native.Mathlib.Omega.{arith}
-use Prim.Native.Nat.{ℕ, ◌+◌, ◌-◌, ◌%◌, ◌≤◌}
-use lib.ListN.{length, drop, length-set}
+use Prim.Native.Nat.{ℕ, ◌+◌, ◌-◌, ◌%◌}
+use lib.ListN.{drop, length-set}
 use Rattle.store.specs.Store.{big_endian}
 use Rattle.store.proofs.Laws.{begin, more}
 use Rattle.store.proofs.big_endian.Goals as goal

@@ -1,12 +1,10 @@
 -- The loop goes from the last byte to the first: what is to stand is the bytes of the rest of the number, and then what stands from i on.
 -- Assumes nothing.
-use mathlib.Core.Path.{◌≡◌, refl, sym, ap, ◌∙◌}
+use mathlib.Core.Path.{◌≡◌}
 use mathlib.Core.List.{◌++◌}
-use native.Mathlib.Omega.{arith}
-use Prim.Native.Nat.{ℕ, ◌+◌, ◌-◌, ◌%◌, ◌≤◌}
-use lib.ListN.{length, drop, length-set}
+use Prim.Native.Nat.{◌≤◌}
+use lib.ListN.{length, drop}
 use Rattle.store.specs.Store.{big_endian}
-use Rattle.store.proofs.Laws.{begin, more}
 use Rattle.store.proofs.big_endian.Given as goal
 
 abbrev pub invariant-loop-i : goal.invariant-loop-i

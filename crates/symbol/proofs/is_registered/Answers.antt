@@ -1,5 +1,4 @@
 -- What stands at the locate is nothing, or a symbol that is compared. Assumes nothing.
-use borrow.Author.Rules.{rules}
 use mathlib.Core.Path.{sym, ap, ◌∙◌}
 use Rattle.directory.specs.Directory.{is_symbol}
 use Rattle.symbol.proofs.is_registered.Goals as goal

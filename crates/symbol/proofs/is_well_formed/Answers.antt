@@ -1,5 +1,4 @@
 -- What was read is Good or not. Assumes nothing.
-use borrow.Author.Rules.{rules}
 use mathlib.Core.Path.{sym, ap, ◌∙◌}
 use Rattle.symbol.specs.Symbol.{is_good}
 use Rattle.symbol.proofs.is_well_formed.Goals as goal

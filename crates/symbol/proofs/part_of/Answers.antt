@@ -1,6 +1,4 @@
 -- Each way is what its tests decide, and the fields that are read lie inside a message that is well formed. Assumes nothing.
-use borrow.Author.Rules.{rules}
-use borrow.Author.Tests.{not-true, not-false}
 use mathlib.Core.Path.{sym, ◌∙◌}
 use native.Mathlib.Omega.{arith}
 use Rattle.symbol.proofs.Laws.{some_bytes, fits, unsized, unread, no_stock, unregistered, registered}

@@ -1,5 +1,4 @@
 -- The part's bounds are those of a place inside the message, and the slice is made at that place. Assumes nothing.
-use borrow.Author.Rules.{rules}
 use mathlib.Core.Path.{refl}
 use native.Mathlib.Omega.{arith}
 use Rattle.symbol.proofs.Laws.{inside, cut}

@@ -1,7 +1,6 @@
 -- The goals that the check leaves. Assumes nothing.
 use native.Mathlib.Omega.{arith}
-use mathlib.Core.Path.{◌≡◌, refl}
-use Rattle.symbol.specs.Symbol.{unpadded}
+use mathlib.Core.Path.{refl}
 use Rattle.symbol.proofs.Laws.{one_less, counted, all_spaces}
 use Rattle.symbol.proofs.unpadded_len.Goals as goal
 

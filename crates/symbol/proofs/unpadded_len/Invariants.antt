@@ -1,8 +1,6 @@
 -- The loop's invariant: as many bytes are unpadded of the symbol as of its first n bytes, which are left. Assumes nothing.
-use native.Mathlib.Omega.{arith}
-use mathlib.Core.Path.{◌≡◌, refl}
+use mathlib.Core.Path.{◌≡◌}
 use Rattle.symbol.specs.Symbol.{unpadded}
-use Rattle.symbol.proofs.Laws.{one_less, counted, all_spaces}
 use Rattle.symbol.proofs.unpadded_len.Given as goal
 
 abbrev pub invariant-loop-n : goal.invariant-loop-n

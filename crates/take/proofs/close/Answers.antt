@@ -2,7 +2,6 @@
 use Rattle.orders.specs.OrderLaws.{closed_fits}
 use Rattle.slots.specs.HeldLaws.{gone_fits}
 use Rattle.take.proofs.Laws.{closed_all}
-use borrow.Author.Rules.{rules}
 use Rattle.take.proofs.close.Goals as goal
 
 pub remaining-shares-requires : goal.remaining-shares-requires

@@ -1,7 +1,6 @@
 -- A refusal is the verdict's, and what comes of the order that is here is what comes of the message. Assumes nothing.
 use mathlib.Core.Path.{sym, ◌∙◌}
 use Rattle.slots.specs.ConcernedLaws.{turned-away, here, let_through, in_slot}
-use borrow.Author.Rules.{rules}
 use Rattle.take.proofs.delete.Goals as goal
 
 pub close-requires : goal.close-requires

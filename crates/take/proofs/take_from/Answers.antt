@@ -4,7 +4,6 @@ use Prim.Native.Nat.{◌≤◌, ◌<◌}
 use Rattle.orders.specs.Order.{remaining}
 use Rattle.slots.specs.HeldLaws.{gone_fits}
 use Rattle.take.proofs.Laws.{more_fits, taken_fits, over, took_all, took_some}
-use borrow.Author.Rules.{rules}
 use Rattle.take.proofs.take_from.Goals as goal
 
 pub remaining-requires : goal.remaining-requires

@@ -2,7 +2,6 @@
 use mathlib.Core.Path.{◌≡◌}
 use Rattle.take.specs.declared.Taking.TheVariants.{Executed, Cancelled}
 use Rattle.take.proofs.Laws.{by_executed, by_cancelled}
-use borrow.Author.Rules.{rules}
 use Rattle.take.proofs.taken.Goals as goal
 
 pub returns-in-Executed : goal.returns-in-Executed

@@ -2,7 +2,6 @@
 -- a field change nothing. Assumes nothing.
 use mathlib.Core.Path.{ap, ◌∙◌}
 use native.Mathlib.Omega.{arith}
-use borrow.Author.Rules.{rules}
 use Rattle.text.specs.TextLaws.{padded-text, fault-padded, text_fault}
 use Rattle.text.proofs.text4.Goals as goal
 

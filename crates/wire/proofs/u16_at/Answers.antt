@@ -1,5 +1,4 @@
 -- Two bytes side by side, which the number that was turned round has as its digits. Assumes nothing.
-use borrow.Author.Rules.{rules}
 use native.Mathlib.Omega.{arith}
 use Prim.Native.Nat.{◌+◌}
 use Rattle.laws.specs.FieldLaws.{field_one, join}

@@ -1,5 +1,4 @@
 -- The bytes of the number that was turned round are its digits to the base 256, and the field's. Assumes nothing.
-use borrow.Author.Rules.{rules}
 use mathlib.Core.Path.{◌≡◌, ◌∙◌}
 use mathlib.Core.List.{List}
 use native.Mathlib.Omega.{arith}

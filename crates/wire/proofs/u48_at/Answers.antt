@@ -1,5 +1,4 @@
 -- Two bytes and then four. Assumes nothing.
-use borrow.Author.Rules.{rules}
 use native.Mathlib.Omega.{arith}
 use Rattle.laws.specs.FieldLaws.{join}
 use Rattle.wire.proofs.u48_at.Goals as goal

@@ -1,5 +1,4 @@
 -- One byte is a field of width 1. Assumes nothing.
-use borrow.Author.Rules.{rules}
 use mathlib.Core.Path.{sym}
 use Rattle.laws.specs.FieldLaws.{field_one}
 use Rattle.wire.proofs.u8_at.Goals as goal

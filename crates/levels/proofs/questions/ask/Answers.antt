@@ -1,6 +1,5 @@
 -- Each way is what the tests of the book, of the side and of the slots decide, in this order. Assumes nothing.
-use Rattle.std.proofs.Common.{sym, ◌∙◌, arith, rules}
-use borrow.Author.Tests.{not-true, not-false}
+use Rattle.std.proofs.Common.{sym, ◌∙◌, arith}
 use Rattle.book.specs.Shape.{words_sized}
 use Rattle.levels.specs.Asks.{no_book, no_side, asked_unsound, asked-seen}
 use Rattle.levels.proofs.questions.ask.Goals as goal

@@ -1,5 +1,5 @@
 -- The best level is the first from no tick on. Assumes nothing.
-use Rattle.std.proofs.Common.{sym, ◌∙◌, rules}
+use Rattle.std.proofs.Common.{sym, ◌∙◌}
 use Rattle.levels.specs.TickLaws.{best_from}
 use Rattle.levels.proofs.questions.best.Goals as goal
 

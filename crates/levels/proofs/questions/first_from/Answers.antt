@@ -1,5 +1,5 @@
 -- What was asked, turned into the first level from a tick on. Assumes nothing.
-use Rattle.std.proofs.Common.{sym, ◌∙◌, rules}
+use Rattle.std.proofs.Common.{sym, ◌∙◌}
 use Rattle.levels.specs.Answers.{first_refused, first_none, first_some}
 use Rattle.levels.proofs.questions.first_from.Goals as goal
 

@@ -1,5 +1,5 @@
 -- What was asked of one tick, turned into the level of its price. Assumes nothing.
-use Rattle.std.proofs.Common.{sym, ◌∙◌, rules}
+use Rattle.std.proofs.Common.{sym, ◌∙◌}
 use Rattle.levels.specs.Answers.{level_refused, level_answered}
 use Rattle.levels.proofs.questions.level.Goals as goal
 

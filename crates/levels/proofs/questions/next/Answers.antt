@@ -1,5 +1,5 @@
 -- The next level is the first from one tick past the price on. Assumes nothing.
-use Rattle.std.proofs.Common.{sym, ◌∙◌, rules}
+use Rattle.std.proofs.Common.{sym, ◌∙◌}
 use Rattle.levels.specs.TickLaws.{next_from_lem}
 use Rattle.levels.proofs.questions.next.Goals as goal
 

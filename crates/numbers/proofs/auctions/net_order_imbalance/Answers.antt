@@ -1,5 +1,4 @@
 -- A field fits 64 bits by what is known of the struct that holds it. Assumes nothing.
-use borrow.Author.Rules.{rules}
 use native.Mathlib.Omega.{arith}
 use Rattle.numbers.proofs.auctions.net_order_imbalance.Goals as goal
 

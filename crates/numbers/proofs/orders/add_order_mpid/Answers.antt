@@ -1,5 +1,4 @@
 -- The side's byte is the one that the definition shows. Assumes nothing.
-use borrow.Author.Rules.{rules}
 use Rattle.numbers.proofs.orders.add_order_mpid.Goals as goal
 
 pub returns : goal.returns

@@ -1,6 +1,5 @@
 -- One field is changed, and the others stay. Assumes nothing.
 use mathlib.Core.Path.{refl}
-use borrow.Author.Rules.{rules}
 use Rattle.orders.specs.Order.{cancelled_by}
 use Rattle.orders.proofs.Order.cancelled.Goals as goal
 

@@ -2,7 +2,6 @@
 use mathlib.Core.Path.{◌≡◌}
 use Prim.Native.Nat.{ℕ, ◌+◌}
 use native.Mathlib.Omega.{arith}
-use borrow.Author.Rules.{rules}
 use Rattle.orders.specs.declared.Order.{Order}
 use Rattle.orders.specs.Order.{remaining, closed_of}
 use Rattle.orders.proofs.Order.closed.Goals as goal

@@ -1,6 +1,5 @@
 -- The sum is the definition, with the side's letter. Assumes nothing.
 use native.Mathlib.Omega.{arith}
-use borrow.Author.Rules.{rules}
 use Rattle.orders.specs.Order.{fourth}
 use Rattle.orders.proofs.Order.fourth.Goals as goal
 

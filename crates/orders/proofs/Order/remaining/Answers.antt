@@ -1,6 +1,5 @@
 -- What three differences leave is what the sum of the three leaves. Assumes nothing.
 use native.Mathlib.Omega.{arith}
-use borrow.Author.Rules.{rules}
 use Rattle.orders.specs.Order.{remaining}
 use Rattle.orders.proofs.Order.remaining.Goals as goal
 

@@ -1,6 +1,5 @@
 -- The sum is the definition. Assumes nothing.
 use native.Mathlib.Omega.{arith}
-use borrow.Author.Rules.{rules}
 use Rattle.orders.specs.Order.{second}
 use Rattle.orders.proofs.Order.second.Goals as goal
 
