@@ -11,7 +11,6 @@ use Rattle.book.specs.declared.Found.{Found}
 use Rattle.book.specs.declared.Found.TheVariants.{At, Nothing}
 use Rattle.book.specs.Book.{live, holds, is_free, found_below, find, lowest_free}
 use Rattle.book.specs.Finds.{holds_yes, holds-live, holds_same, find_at, found_slot, nowhere, below_yes, below_no, free_yes, free_slot, full}
-use Rattle.directory.specs.declared.Entry.TheVariants as entry
 use Rattle.orders.specs.declared.Order.{Order}
 use Rattle.orders.specs.declared.Held.{Held}
 use Rattle.orders.specs.declared.Held.TheVariants.{Sound, Unsound}

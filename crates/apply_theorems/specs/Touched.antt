@@ -1,5 +1,5 @@
 -- What a refused call touches: nothing. Assumes nothing.
-use Rattle.std.specs.Prelude.{◌≡◌, ◌≢◌, Bool, List, ℕ, length}
+use Rattle.std.specs.Prelude.{◌≡◌, Bool, List, ℕ, length}
 use Rattle.std.proofs.Math.Path.{refl}
 use Rattle.std.proofs.Common.{sym, ap, ◌∙◌}
 use Rattle.std.proofs.Math.Bool.{true, false}

@@ -1,5 +1,4 @@
 -- What is written are the numbers of what apply leaves. Assumes nothing.
-use borrow.Author.Rules.{rules}
 use mathlib.Core.Path.{ap, ◌∙◌}
 use Rattle.apply.specs.Apply.{After, number_of}
 use Rattle.outcomes.specs.Outcomes.{row_of, order_row}

@@ -1,5 +1,4 @@
 -- The number is that of what making the tables fresh came to. Assumes nothing.
-use borrow.Author.Rules.{rules}
 use mathlib.Core.Path.{sym, ap, ◌∙◌}
 use Rattle.fresh.specs.Fresh.{made_number}
 use Rattle.ladlemoss.proofs.ladlemoss_fresh.Goals as goal

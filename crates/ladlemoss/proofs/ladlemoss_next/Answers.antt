@@ -1,5 +1,4 @@
 -- The answer that was given is the one whose numbers are written. Assumes nothing.
-use borrow.Author.Rules.{rules}
 use mathlib.Core.Path.{ap, ◌∙◌}
 use Rattle.replies.specs.Replies.{quote_number, quote_row}
 use Rattle.ladlemoss.proofs.ladlemoss_next.Goals as goal

@@ -1,5 +1,4 @@
 -- The answer that was read is the one whose numbers are written. Assumes nothing.
-use borrow.Author.Rules.{rules}
 use mathlib.Core.Path.{ap, ◌∙◌}
 use Rattle.numbers.specs.Shown.{answer_number, answer_row}
 use Rattle.ladlemoss.proofs.ladlemoss_read.Goals as goal

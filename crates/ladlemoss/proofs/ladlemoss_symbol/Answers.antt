@@ -1,5 +1,4 @@
 -- The place that was found is the one that is written. Assumes nothing.
-use borrow.Author.Rules.{rules}
 use mathlib.Core.Path.{ap}
 use Rattle.ladlemoss.specs.Face.{part_row}
 use Rattle.ladlemoss.proofs.ladlemoss_symbol.Goals as goal
