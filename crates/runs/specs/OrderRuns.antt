@@ -34,7 +34,6 @@ only_of r (Sound o) = cond (eqb o.reference.0 r) (remaining o) 0
 only_of r Unsound = 0
 
 module _ (r : ℕ) where
-
   -- ---- what is under a reference
 
   -- the weight of an order whose reference and remaining shares are known
