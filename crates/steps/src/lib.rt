@@ -81,6 +81,7 @@ fn order_executed(book: &mut [u64], k: usize, m: OrderExecuted) -> Step
 }
 
 // C: its execution price never moves the order's level.
+#[tactic(auto, using(book::specs::Finds::find_within))]
 fn order_executed_with_price(book: &mut [u64], k: usize, m: OrderExecutedWithPrice) -> Step
     requires { Sized book.old k }
     ensures { Turns book.old k (asked (message.OrderExecutedWithPrice m)) result book.new }
