@@ -21,7 +21,7 @@ use Rattle.moves.specs.Moves.{Moved}
 use Rattle.moves.specs.Facts.{Facts}
 use Rattle.moves.specs.Altered.{altered_remaining}
 use Rattle.runs.specs.Ledger.{Event, added, executed, cancelled, closed, Line, lines_of, ledger, brought_by, put, taken}
-use Rattle.runs.specs.Ledger.{taken_away as awayBy}
+use Rattle.runs.specs.Ledger.{taken_away as away_by}
 use Rattle.runs.specs.Statements.{Run, Start, start_of, ByLevel}
 use Rattle.runs.specs.Healthy.{healthy_start, fitting_start, healthy_reached}
 use Rattle.runs.specs.RunLaws.{by_verdict, over_run, fresh_total}
@@ -37,7 +37,7 @@ takes_none executed n t = refl
 takes_none cancelled n t = refl
 takes_none closed n t = refl
 
-takes_all : (e : Event) (n : ℕ) → Takes e → awayBy e n ≡ n
+takes_all : (e : Event) (n : ℕ) → Takes e → away_by e n ≡ n
 takes_all added n t = absurd t
 takes_all executed n t = refl
 takes_all cancelled n t = refl
