@@ -1,16 +1,14 @@
 -- THE DEFINITION of the order question (01, 'What the desk may ask'): 14, 10, 13, or the account of the order with a reference.
 -- Assumes nothing.
-use Rattle.std.specs.Prelude.{ℕ, cond, List, eqb, length}
-use Rattle.refusals.specs.Refusals.{BOOK, NO_ORDER, SHAPE, refusal_of}
+use Rattle.refusals.specs.declared.Refusal.TheVariants.{Book, NoOrder, Shape}
+use Rattle.std.specs.Prelude.{ℕ, cond, List, eqb, length, Result, Some, None, Ok, Err}
 use Rattle.book.specs.Book.{find, words_of}
 use Rattle.orders.specs.declared.Order.{Order}
-use Rattle.orders.specs.declared.Held.TheVariants.{Sound, Unsound}
 use Rattle.orders.specs.Order.{remaining}
 use Rattle.decide.specs.Decide.{Seen, unseen, something}
 use Rattle.slots.specs.Stored.{seen_in}
 use Rattle.accounts.specs.declared.Account.{Account}
-use Rattle.accounts.specs.declared.Accounted.{Accounted}
-use Rattle.accounts.specs.declared.Accounted.TheVariants.{Refused, Is}
+use Rattle.refusals.specs.declared.Refusal.{Refusal}
 
 abbrev pub account_of : Order → Account
 account_of o = record {
@@ -25,12 +23,12 @@ account_of o = record {
 }
 
 -- 10 where the reference is not live, 13 where its slot is unsound
-abbrev pub accounted : Seen → Accounted
-accounted unseen = Refused (refusal_of NO_ORDER)
-accounted (something Unsound) = Refused (refusal_of BOOK)
-accounted (something (Sound o)) = Is (account_of o)
+abbrev pub accounted : Seen → Result Account Refusal
+accounted unseen = Err NoOrder
+accounted (something None) = Err Book
+accounted (something (Some o)) = Ok (account_of o)
 
-unfoldable pub order_asked : List ℕ → ℕ → Accounted
+unfoldable pub order_asked : List ℕ → ℕ → Result Account Refusal
 order_asked b reference =
-    cond (eqb (words_of (length b)) 0) (Refused (refusal_of SHAPE))
+    cond (eqb (words_of (length b)) 0) (Err Shape)
     (accounted (seen_in b (words_of (length b)) (find b (words_of (length b)) reference)))

@@ -3,12 +3,11 @@
 
 ghost use Rattle.std.specs.Prelude.{◌≡◌, ◌+◌, ◌≤◌};
 ghost use Rattle.accounts.specs.Accounts.{account_of, order_asked};
-ghost use Rattle.refusals.specs.Refusals.{refusal_of};
 
-use book::Found;
+use book::Book;
 use kinds::{Locate, Price, Reference, Side};
-use orders::{Held, Order};
-use refusals::{BOOK, NO_ORDER, Refusal, SHAPE};
+use orders::Order;
+use refusals::Refusal;
 
 #[derive(Drop)]
 pub struct Account {
@@ -20,18 +19,6 @@ pub struct Account {
     pub side: Side,
     pub price: Price,
     pub attribution: u32,
-}
-
-#[derive(Drop)]
-pub enum Accounted {
-    Refused(Refusal),
-    Is(Account),
-}
-
-fn refuse(n: u8) -> Accounted
-    ensures { result ≡ Accounted.Refused (refusal_of n) }
-{
-    Accounted::Refused(Refusal::of(n))
 }
 
 fn account_of(o: Order) -> Account
@@ -53,20 +40,17 @@ fn account_of(o: Order) -> Account
     }
 }
 
-pub fn order(book: &[u64], reference: Reference) -> Accounted
+pub fn order(book: &[u64], reference: Reference) -> Result<Account, Refusal>
     ensures { result ≡ order_asked book.now reference.0 }
 {
-    let k = book::words_of(book.len());
-    if k == 0 {
-        return refuse(SHAPE);
-    }
-    let found = search::find(book, k, reference);
-    let Found::At(slot) = found else {
-        return refuse(NO_ORDER);
+    let Some(whole) = Book::of(book) else {
+        return Err(Refusal::Shape);
     };
-    let held = slots::held_at(book, k, slot);
-    let Held::Sound(o) = held else {
-        return refuse(BOOK);
+    let Some(slot) = search::find(whole, reference) else {
+        return Err(Refusal::NoOrder);
     };
-    Accounted::Is(account_of(o))
+    let Some(o) = slots::held_at(whole, slot) else {
+        return Err(Refusal::Book);
+    };
+    Ok(account_of(o))
 }

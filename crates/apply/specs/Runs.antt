@@ -1,8 +1,9 @@
 -- A run: byte strings applied in turn to the same two tables, from tables made fresh. Assumes nothing.
-use Rattle.std.specs.Prelude.{ℕ, List, [], ◌∷◌, replicate}
+use Rattle.std.specs.Prelude.{ℕ, List, [], ◌∷◌, replicate, Result}
 use Rattle.fresh.specs.Fresh.{fresh_of}
-use Rattle.apply.specs.declared.Outcome.{Outcome}
 use Rattle.apply.specs.Apply.{applied}
+use Rattle.apply.specs.declared.Outcome.{Outcome}
+use Rattle.refusals.specs.declared.Refusal.{Refusal}
 
 pub record Tables : Type 0 where
   pub directory : List ℕ
@@ -11,7 +12,7 @@ pub record Tables : Type 0 where
 -- a message, and the answer that was given to it
 pub record Said : Type 0 where
   pub bytes : List ℕ
-  pub outcome : Outcome
+  pub outcome : Result Outcome Refusal
 
 -- the tables that the call to make them fresh leaves of d and b
 abbrev pub made : List ℕ → List ℕ → Tables
@@ -29,7 +30,7 @@ tables_after t s = record {
 }
 
 -- the answer to one message
-abbrev pub answer_to : Tables → List ℕ → Outcome
+abbrev pub answer_to : Tables → List ℕ → Result Outcome Refusal
 answer_to t s = (applied t.directory t.book s).outcome
 
 -- the tables after a run

@@ -1,21 +1,18 @@
 -- Each number is given exactly when 01 says so: the number that is given is one that 01 gives (`given`), and 01 gives one number
 -- only (`given_unique`). Assumes nothing.
-use Rattle.std.specs.Prelude.{◌≡◌, refl, ◌⊎◌, ◌≢◌, Bool, true, false, cond, List, ℕ, eqb, length}
+use Rattle.std.specs.Prelude.{◌≡◌, refl, ◌⊎◌, ◌≢◌, Bool, true, false, cond, List, ℕ, eqb, length, Result, Ok, Err}
 use Rattle.std.proofs.Common.{sym, ap, subst, ◌∙◌, inl, inr, arith}
 use Rattle.std.proofs.lemmas.Bool.{eqb-false}
 use Rattle.laws.specs.Bools.{true_not_false}
-use Rattle.refusals.specs.Refusals.{LENGTH, TYPE}
+use Rattle.refusals.specs.Refusals.{LENGTH, TYPE, refusal_number, number_some, refusal_of}
 use Rattle.layout.specs.Layout.{cells_of, length_of}
 use Rattle.messages.specs.declared.Message.{Message}
-use Rattle.messages.specs.declared.Answer.{Answer}
-use Rattle.messages.specs.declared.Answer.TheVariants.{Good, Refused}
 use Rattle.messages.specs.Typed.{message}
 use Rattle.wellformed.specs.WellFormed.{refusal, values}
 use Rattle.book.specs.Book.{words_of}
 use Rattle.fresh.specs.Fresh.{good_shapes}
 use Rattle.reader.specs.Read.{no_message, type_of, judged_as, answer}
 use Rattle.numbers.specs.Shown.{answer_number}
-use Rattle.decide.specs.declared.Step.{Step}
 use Rattle.decide.specs.declared.Step.TheVariants as step
 use Rattle.decide.specs.Decide.{step_of}
 use Rattle.steps.specs.Asked.{asked}
@@ -26,20 +23,22 @@ use Rattle.apply_theorems.specs.Statements.{Earned, Judged, Given, ApplyExactly}
 use Rattle.apply_theorems.specs.Means.{shaped_good, shaped_unique, good_shaped}
 use Rattle.apply_theorems.specs.Earns.{step_number, earned_unique}
 use Rattle.apply_theorems.proofs.Earns.{earned}
+use Rattle.decide.specs.declared.Step.{Step}
+use Rattle.refusals.specs.declared.Refusal.{Refusal}
 
 -- ---- a refusal of reading has a number that is not 0
 
-abbrev Numbered : Answer → Type 0
-Numbered (Good m) = Unit {0}
-Numbered (Refused r) = r.number ≢ 0
+abbrev Numbered : Result Message Refusal → Type 0
+Numbered (Ok m) = Unit {0}
+Numbered (Err r) = refusal_number r ≢ 0
 
 numbered-judged : (t : ℕ) (s : List ℕ) → Numbered (judged_as t s)
 unfolding judged_as
 numbered-judged t s = go (message t (values s (cells_of t))) (refusal s (cells_of t)) (eqb (refusal s (cells_of t)) 0) refl
   where
-    go : (m : Message) (n : ℕ) (b : Bool) → eqb n 0 ≡ b → Numbered (cond b (Good m) (no_message n))
+    go : (m : Message) (n : ℕ) (b : Bool) → eqb n 0 ≡ b → Numbered (cond b (Ok m) (no_message n))
     go m n true e = tt
-    go m n false e = eqb-false n 0 e
+    go m n false e = number_some (refusal_of n)
 
 numbered : (s : List ℕ) → Numbered (answer s)
 unfolding answer
@@ -47,7 +46,7 @@ numbered s =
     let t = type_of s in
     go (eqb (length s) 0) (eqb (length_of t) 0) (eqb (length s) (length_of t)) (judged_as t s) (numbered-judged t s)
   where
-    go : (a b c : Bool) (x : Answer) → Numbered x → Numbered (cond a (no_message LENGTH) (cond b (no_message TYPE) (cond c x (no_message LENGTH))))
+    go : (a b c : Bool) (x : Result Message Refusal) → Numbered x → Numbered (cond a (no_message LENGTH) (cond b (no_message TYPE) (cond c x (no_message LENGTH))))
     go true b c x n = λ e. omega arith
     go false true c x n = λ e. omega arith
     go false false true x n = n
@@ -58,23 +57,23 @@ numbered s =
 abbrev number_after : After → ℕ
 number_after x = number_of x.outcome
 
-number-concluded : (m : Message) (r : Step) → number_of (concluded m r) ≡ step_number r
-number-concluded m (step.Refused r) = refl
-number-concluded m step.Plain = refl
-number-concluded m (step.One f) = refl
-number-concluded m (step.Two f g) = refl
+number-concluded : (m : Message) (r : Result Step Refusal) → number_of (concluded m r) ≡ step_number r
+number-concluded m (Err r) = refl
+number-concluded m (Ok step.Plain) = refl
+number-concluded m (Ok (step.One f)) = refl
+number-concluded m (Ok (step.Two f g)) = refl
 
 -- it is one that 01 gives
 given : (d b s : List ℕ) → Given d b s (number_of (applied d b s).outcome)
 given d b s = go (good_shapes d b) refl
   where
-    read : good_shapes d b ≡ true → (a : Answer) → answer s ≡ a
+    read : good_shapes d b ≡ true → (a : Result Message Refusal) → answer s ≡ a
         → ((answer_number (answer s) ≡ number_of (applied d b s).outcome) × (number_of (applied d b s).outcome ≢ 0))
         ⊎ Judged d b s (words_of (length b)) (number_of (applied d b s).outcome)
-    read e (Refused r) f =
-        let n : number_of (applied d b s).outcome ≡ r.number = ap number_after (unread d b s e f) in
+    read e (Err r) f =
+        let n : number_of (applied d b s).outcome ≡ refusal_number r = ap number_after (unread d b s e f) in
         inl (ap answer_number f ∙ sym n, λ z. subst Numbered f (numbered s) (sym n ∙ z))
-    read e (Good m) f =
+    read e (Ok m) f =
         let k = words_of (length b) in
         let n = ap number_after (judgement d b s e f) ∙ number-concluded m (step_of (verdict_on d b k (asked m))) in
         inr (record { message = m; read = f; earned = subst (Earned d b k (asked m)) (sym n) (earned d b k (asked m)).number })

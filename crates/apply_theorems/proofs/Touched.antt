@@ -1,28 +1,23 @@
 -- What a call touches that was read: only the slots and the entry that its message is about; so every other live order stays as it
 -- was. Assumes nothing.
-use Rattle.std.specs.Prelude.{◌≡◌, ◌≢◌, Bool, not, cond, List, ℕ, ◌*◌, ◌<◌, eqb, leb, length}
+use Rattle.refusals.specs.declared.Refusal.TheVariants.{Book, Conflict, NoOrder}
+use Rattle.std.specs.Prelude.{◌≡◌, ◌≢◌, Bool, not, cond, List, ℕ, ◌*◌, ◌<◌, eqb, leb, length, Option, Some, None, Ok}
 use Rattle.std.proofs.Math.Path.{refl}
 use Rattle.std.proofs.Common.{sym, subst, ◌∙◌, inl, inr, arith}
 use Rattle.std.proofs.Math.Bool.{true, false}
-use Rattle.refusals.specs.Refusals.{BOOK, NO_ORDER}
 use Rattle.messages.specs.declared.Message.{Message}
-use Rattle.messages.specs.declared.Answer.TheVariants as read
 use Rattle.kinds.specs.declared.Slot.{Slot}
 use Rattle.directory.specs.DirectoryLaws.{registered-length, registered_other, registered_unused, entry_means}
-use Rattle.book.specs.declared.Found.{Found}
-use Rattle.book.specs.declared.Found.TheVariants.{At, Nothing}
 use Rattle.book.specs.Book.{live, number_at, find, lowest_free, clear_slot, words_of}
 use Rattle.book.specs.Finds.{free_slot}
 use Rattle.book.specs.Slots.{Changed, put_changed, clear_changed}
-use Rattle.directory.specs.declared.Entry.{Entry}
-use Rattle.directory.specs.declared.Entry.TheVariants.{Outside, Symbol}
 use Rattle.directory.specs.Directory.{entry_at, is_symbol}
 use Rattle.orders.specs.declared.Order.{Order}
-use Rattle.orders.specs.declared.Held.TheVariants.{Sound, Unsound}
 use Rattle.orders.specs.Order.{remaining, second, third, fourth}
 use Rattle.slots.specs.Stored.{entered, is_at, kept, placed, put_order, slot_of, stored}
 use Rattle.enroll.specs.Enrolled.{enrolled}
 use Rattle.reader.specs.Read.{answer}
+use Rattle.refusals.specs.declared.Refusal.{Refusal}
 use Rattle.decide.specs.Decide.{Verdict, refuse, enroll, pass, gate}
 use Rattle.decide.specs.Decide.{Seen, unseen, something, is_registered, registering, taking, closing, replacing, renewed}
 use Rattle.take.specs.Taken.{taken_by}
@@ -80,14 +75,14 @@ module _ {k : ℕ} {own : ℕ → Type 0} where
       go true = clears b s z l w
       go false = puts b s o z l w
 
-  enters : (b : List ℕ) (o : Order) → length b ≡ 257 * k → ((s : Slot) → lowest_free b k ≡ At s → own s.0)
+  enters : (b : List ℕ) (o : Order) → length b ≡ 257 * k → ((s : Slot) → lowest_free b k ≡ Some s → own s.0)
       → Besides k own b (entered b k o)
   unfolding entered
   enters b o z w = go (lowest_free b k) refl
     where
-      go : (f : Found) → lowest_free b k ≡ f → Besides k own b (placed b k o f)
-      go Nothing e = unmoved b
-      go (At s) e = puts b s.0 o z (free_slot b k s e).0 (w s e)
+      go : (f : Option Slot) → lowest_free b k ≡ f → Besides k own b (placed b k o f)
+      go None e = unmoved b
+      go (Some s) e = puts b s.0 o z (free_slot b k s e).0 (w s e)
 
 -- ---- what a verdict leaves
 
@@ -100,26 +95,26 @@ module _ {d b : List ℕ} {k : ℕ} {a : Asked} where
   booked x =
       record { directory_length = refl; book_length = x.size; unused = refl; entries = λ m n. refl; slots = x.slots }
 
-  idle : {s n : ℕ} → Fine d b k a s (refuse n)
+  idle : {s : ℕ} {r : Refusal} → Fine d b k a s (refuse r)
   idle = record { only = booked (unmoved b) }
 
-  through : {s : ℕ} {v : Verdict} (t : Bool) (c : ℕ) → Fine d b k a s v → Fine d b k a s (gate t c v)
+  through : {s : ℕ} {v : Verdict} (t : Bool) (c : Refusal) → Fine d b k a s v → Fine d b k a s (gate t c v)
   through true c f = f
   through false c f = idle
 
   -- of what is seen under a reference only a sound order comes to anything
-  named : {r s : ℕ} {z : Seen} (f : Seen → Verdict) → f unseen ≡ refuse NO_ORDER → f (something Unsound) ≡ refuse BOOK
-      → Sight b k r s z → ((o : Order) → Lowest b k r s → Fine d b k a s (f (something (Sound o)))) → Fine d b k a s (f z)
+  named : {r s : ℕ} {z : Seen} (f : Seen → Verdict) → f unseen ≡ refuse NoOrder → f (something None) ≡ refuse Book
+      → Sight b k r s z → ((o : Order) → Lowest b k r s → Fine d b k a s (f (something (Some o)))) → Fine d b k a s (f z)
   named f p q (found_nothing n) next = subst (Fine d b k a 0) (sym p) idle
   named f p q (found_unsound s w e) next = subst (Fine d b k a s) (sym q) idle
   named f p q (found_order s o w e) next = next o w
 
 -- R enters a symbol at its locate, or nothing
-registers : (d b : List ℕ) (k l symbol : ℕ) (e : Entry) → entry_at d l ≡ e → Fine d b k (register l symbol) 0 (registering e l symbol)
-registers d b k l symbol Outside p = idle
-registers d b k l symbol (Symbol n) p = go (eqb n 0)
+registers : (d b : List ℕ) (k l symbol : ℕ) (e : Option ℕ) → entry_at d l ≡ e → Fine d b k (register l symbol) 0 (registering e l symbol)
+registers d b k l symbol None p = idle
+registers d b k l symbol (Some n) p = go (eqb n 0)
   where
-    go : (t : Bool) → Fine d b k (register l symbol) 0 (cond t (enroll l symbol) (gate (eqb n symbol) 8 pass))
+    go : (t : Bool) → Fine d b k (register l symbol) 0 (cond t (enroll l symbol) (gate (eqb n symbol) Conflict pass))
     go true =
         record {
           only = record {
@@ -130,39 +125,39 @@ registers d b k l symbol (Symbol n) p = go (eqb n 0)
             slots = (unmoved b).slots;
           };
         }
-    go false = through (eqb n symbol) 8 (record { only = booked (unmoved b) })
+    go false = through (eqb n symbol) _ (record { only = booked (unmoved b) })
 
 -- what is asked, verdict_on, leaves all else
 fine : (d b : List ℕ) (k : ℕ) (a : Asked) → length b ≡ 257 * k → Fine d b k a (slot_sought b k a) (verdict_on d b k a)
 fine d b k (register l symbol) z = registers d b k l symbol (entry_at d l) refl
 fine d b k (start o symbol) z =
     let e = entry_at d o.locate.0 in
-    through (is_registered e) 7
-    (through (is_symbol symbol e) 8
-    (through (not (is_at (find b k o.reference.0))) 9
-    (through (is_at (lowest_free b k)) 12
+    through (is_registered e) _
+    (through (is_symbol symbol e) _
+    (through (not (is_at (find b k o.reference.0))) _
+    (through (is_at (lowest_free b k)) _
     (record { only = booked (enters b o z (λ s e. e)) }))))
 fine d b k (take how r l n) z =
     named (taking (taken_by how) l n) refl refl (sight b k r) λ o w.
-    through (eqb o.locate.0 l) 8
-    (through (leb n (remaining o)) 11
+    through (eqb o.locate.0 l) _
+    (through (leb n (remaining o)) _
     (record { only = booked (keeps b (slot_of (find b k r)) (taken_by how o n) z w.inside w) }))
 fine d b k (close r l) z =
     named (closing l) refl refl (sight b k r) λ o w.
-    through (eqb o.locate.0 l) 8
+    through (eqb o.locate.0 l) _
     (record { only = booked (clears b (slot_of (find b k r)) z w.inside w) })
 fine d b k (replace original new l n p) z =
     let s = slot_of (find b k original) in
     named (replacing l original new n p (is_at (find b k new))) refl refl (sight b k original) λ o w.
     let c = clears b s z w.inside (inl w) in
-    through (eqb o.locate.0 l) 8
-    (through (not (eqb new original)) 9
-    (through (not (is_at (find b k new))) 9
+    through (eqb o.locate.0 l) _
+    (through (not (eqb new original)) _
+    (through (not (is_at (find b k new))) _
     (record { only = booked (both c (enters (clear_slot b k s) (renewed o new n p) (c.size ∙ z) (λ t e. inr (s, w, e)))) })))
 fine d b k nothing z = record { only = booked (unmoved b) }
 
 -- what was read touches only what its message is about, refused or not
-pub only_own : (d b s : List ℕ) (k : ℕ) (m : Message) → Shaped d b k → answer s ≡ read.Good m
+pub only_own : (d b s : List ℕ) (k : ℕ) (m : Message) → Shaped d b k → answer s ≡ Ok m
     → Only d b k (asked m) (applied d b s).directory (applied d b s).book
 only_own d b s k m z e =
     let j = words_of (length b) in
@@ -189,6 +184,6 @@ unnamed {b = b} {k} {t} z (replace original new l c p) i e n (inr w) =
 unnamed z nothing i e n w = w
 
 -- every live order that a message does not name stays as it was
-pub others_stay : (d b s : List ℕ) (k : ℕ) (m : Message) → Shaped d b k → answer s ≡ read.Good m
+pub others_stay : (d b s : List ℕ) (k : ℕ) (m : Message) → Shaped d b k → answer s ≡ Ok m
     → (t : ℕ) → t < 64 * k → live b t ≡ 1 → (Names (asked m) (number_at b k t 0) → ⊥) → SameSlot b (applied d b s).book k t
 others_stay d b s k m z e t l a n = (only_own d b s k m z e).slots t l (unnamed z (asked m) l a n)

@@ -1,11 +1,10 @@
 -- What a verdict comes to, by its number; tests; and 01 gives one number only (`earned_unique`). Assumes nothing.
-use Rattle.std.specs.Prelude.{◌≡◌, refl, ◌≢◌, Bool, true, false, List, ℕ, eqb}
+use Rattle.refusals.specs.declared.Refusal.TheVariants.{Book, NoOrder}
+use Rattle.std.specs.Prelude.{◌≡◌, refl, ◌≢◌, Bool, true, false, List, ℕ, eqb, Result, Some, None, Ok, Err}
 use Rattle.std.proofs.Common.{sym, ap, ◌∙◌, inl, inr, eqb-true}
 use Rattle.std.proofs.lemmas.Bool.{eqb-false}
-use Rattle.refusals.specs.Refusals.{BOOK, NO_ORDER}
+use Rattle.refusals.specs.Refusals.{refusal_number}
 use Rattle.orders.specs.declared.Order.{Order}
-use Rattle.orders.specs.declared.Held.TheVariants.{Sound, Unsound}
-use Rattle.decide.specs.declared.Step.{Step}
 use Rattle.decide.specs.declared.Step.TheVariants as step
 use Rattle.decide.specs.Decide.{Verdict, refuse, step_of}
 use Rattle.decide.specs.Decide.{Seen, unseen, something}
@@ -13,13 +12,15 @@ use Rattle.steps.specs.Asked.{Asked, register, start, take, close, replace, noth
 use Rattle.apply_theorems.specs.Statements.{IsLive, Broken, IsOrder, first, done, Earned}
 use Rattle.apply_theorems.specs.Sights.{lowest-live, Sight, order_sound}
 use Rattle.apply_theorems.specs.Sights.Sight.{found_nothing, found_unsound, found_order}
+use Rattle.decide.specs.declared.Step.{Step}
+use Rattle.refusals.specs.declared.Refusal.{Refusal}
 
 -- the number of a step, and of a verdict
-abbrev pub step_number : Step → ℕ
-step_number (step.Refused r) = r.number
-step_number step.Plain = 0
-step_number (step.One f) = 0
-step_number (step.Two f g) = 0
+abbrev pub step_number : Result Step Refusal → ℕ
+step_number (Err r) = refusal_number r
+step_number (Ok step.Plain) = 0
+step_number (Ok (step.One f)) = 0
+step_number (Ok (step.Two f g)) = 0
 
 abbrev number_in : Verdict → ℕ
 number_in v = step_number (step_of v)
@@ -49,8 +50,8 @@ differ m n = go (eqb m n) refl
 
 -- E, C, X, D, U: 10, 13; next is what a sound order comes to
 pub named_comes : {b : List ℕ} {k r s : ℕ} {z : Seen} {rest : ℕ → Type 0} (f : Seen → Verdict)
-    → f unseen ≡ refuse NO_ORDER → f (something Unsound) ≡ refuse BOOK
-    → Sight b k r s z → ((o : Order) → IsOrder b k r o → Comes (f (something (Sound o))) rest)
+    → f unseen ≡ refuse NoOrder → f (something None) ≡ refuse Book
+    → Sight b k r s z → ((o : Order) → IsOrder b k r o → Comes (f (something (Some o))) rest)
     → Comes (f z) (first (IsLive b k r → ⊥) 10 (first (Broken b k r) 13 rest))
 named_comes f p q (found_nothing n) next = record { number = inl (n, ap number_in p) }
 named_comes f p q (found_unsound s w e) next =

@@ -1,14 +1,10 @@
 -- What holds of a call of apply, in 01's words ('When the book says no'): when each number is given, that a refused call changes
 -- nothing, and what an accepted one touches. Exactly.antt and Touched.antt prove it of `applied`. Assumes nothing.
-use Rattle.std.specs.Prelude.{◌≡◌, ◌↔◌, ◌⊎◌, ◌≢◌, List, ℕ, ◌*◌, ◌<◌, length}
+use Rattle.std.specs.Prelude.{◌≡◌, ◌↔◌, ◌⊎◌, ◌≢◌, List, ℕ, ◌*◌, ◌<◌, length, Some, None, Ok}
 use Rattle.messages.specs.declared.Message.{Message}
-use Rattle.messages.specs.declared.Answer.TheVariants.{Good}
-use Rattle.book.specs.declared.Found.TheVariants.{At}
-use Rattle.directory.specs.declared.Entry.TheVariants as entry
 use Rattle.directory.specs.Directory.{DirectoryLength, entry_at, unused_of}
 use Rattle.book.specs.Book.{BookLength, live, number_at, lowest_free, clear_slot}
 use Rattle.orders.specs.declared.Order.{Order}
-use Rattle.orders.specs.declared.Held.TheVariants.{Sound, Unsound}
 use Rattle.orders.specs.Order.{remaining}
 use Rattle.reader.specs.Read.{answer}
 use Rattle.slots.specs.Stored.{held_at}
@@ -25,16 +21,16 @@ pub record Shaped (d b : List ℕ) (k : ℕ) : Type 0 where
 
 -- locate 0, or beyond the directory
 abbrev pub Outside : List ℕ → ℕ → Type 0
-Outside d l = entry_at d l ≡ entry.Outside
+Outside d l = entry_at d l ≡ None
 
 -- that, or unregistered
 abbrev pub Unlisted : List ℕ → ℕ → Type 0
-Unlisted d l = Outside d l ⊎ (entry_at d l ≡ entry.Symbol 0)
+Unlisted d l = Outside d l ⊎ (entry_at d l ≡ Some 0)
 
 -- another symbol is registered
 pub record Another (d : List ℕ) (l symbol : ℕ) : Type 0 where
   pub other : ℕ
-  pub stands : entry_at d l ≡ entry.Symbol other
+  pub stands : entry_at d l ≡ Some other
   pub some : other ≢ 0
   pub differs : other ≢ symbol
 
@@ -60,13 +56,13 @@ Full b k = (i : ℕ) → i < 64 * k → live b i ≢ 0
 pub record Broken (b : List ℕ) (k r : ℕ) : Type 0 where
   pub slot : ℕ
   pub lowest : Lowest b k r slot
-  pub unsound : held_at b k slot ≡ Unsound
+  pub unsound : held_at b k slot ≡ None
 
 -- o is the order with the reference r, in a sound slot
 pub record IsOrder (b : List ℕ) (k r : ℕ) (o : Order) : Type 0 where
   pub slot : ℕ
   pub lowest : Lowest b k r slot
-  pub sound : held_at b k slot ≡ Sound o
+  pub sound : held_at b k slot ≡ Some o
 
 -- the locate differs from the order's
 pub record Elsewhere (b : List ℕ) (k r l : ℕ) : Type 0 where
@@ -107,7 +103,7 @@ Earned d b k nothing = done
 -- the number of a message that was read
 pub record Judged (d b s : List ℕ) (k n : ℕ) : Type 0 where
   pub message : Message
-  pub read : answer s ≡ Good message
+  pub read : answer s ≡ Ok message
   pub earned : Earned d b k (asked message) n
 
 -- SHAPE; then the refusals of reading; then those of what is asked
@@ -135,11 +131,11 @@ pub record SameSlot (b b' : List ℕ) (k t : ℕ) : Type 0 where
 -- slot t is one that the message is about: that of an order it names, or the one that its new order takes
 abbrev pub Own : List ℕ → ℕ → Asked → ℕ → Type 0
 Own b k (register l symbol) t = ⊥
-Own b k (start o symbol) t = lowest_free b k ≡ At (record { 0 = t })
+Own b k (start o symbol) t = lowest_free b k ≡ Some (record { 0 = t })
 Own b k (take how r l n) t = Lowest b k r t
 Own b k (close r l) t = Lowest b k r t
 Own b k (replace original new l n p) t =
-    Lowest b k original t ⊎ ((s : ℕ) × Lowest b k original s × (lowest_free (clear_slot b k s) k ≡ At (record { 0 = t })))
+    Lowest b k original t ⊎ ((s : ℕ) × Lowest b k original s × (lowest_free (clear_slot b k s) k ≡ Some (record { 0 = t })))
 Own b k nothing t = ⊥
 
 -- the reference r is one that the message names

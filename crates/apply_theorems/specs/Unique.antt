@@ -1,9 +1,9 @@
 -- Two ends of a call that the contract of `apply` allows for the same tables and bytes are one, and so are two outcomes with the
 -- same numbers: an outcome is made by its numbers (`outcome_back`). Assumes nothing.
-use Rattle.std.specs.Prelude.{◌≡◌, refl, ◌≢◌, true, false, cond, List, [], ◌∷◌, ℕ, zero, suc, ◌<◌, eqb, ltb}
+use Rattle.std.specs.Prelude.{◌≡◌, refl, ◌≢◌, true, false, cond, List, [], ◌∷◌, ℕ, zero, suc, ◌<◌, eqb, ltb, Result, Ok, Err}
 use Rattle.std.proofs.Common.{sym, ap, ◌∙◌, arith, ne_eqb, ltb-true}
 use Rattle.laws.specs.Lists.{nth}
-use Rattle.refusals.specs.Refusals.{refusal_of}
+use Rattle.refusals.specs.Refusals.{refusal_of, of_number}
 use Rattle.kinds.specs.declared.Side.{Side}
 use Rattle.kinds.specs.declared.Side.TheVariants.{Buy, Sell}
 use Rattle.kinds.specs.Sides.{side_byte, side_of}
@@ -14,20 +14,21 @@ use Rattle.messages.specs.Typed.{message}
 use Rattle.messages.specs.TypedLaws.{message_back}
 use Rattle.decide.specs.declared.Figures.{Figures}
 use Rattle.numbers.specs.Shown.{padded}
-use Rattle.apply.specs.declared.Outcome.{Outcome}
-use Rattle.apply.specs.declared.Outcome.TheVariants.{Refused, Accepted, Moved, Replaced}
+use Rattle.apply.specs.declared.Outcome.TheVariants.{Accepted, Moved, Replaced}
 use Rattle.apply.specs.Apply.{After, applied, number_of}
 use Rattle.outcomes.specs.Outcomes.{row_of, order_row}
+use Rattle.apply.specs.declared.Outcome.{Outcome}
+use Rattle.refusals.specs.declared.Refusal.{Refusal}
 
 -- ---- the contract
 
 -- two ends of a call agree in all three parts
-pub record SameOutcome (r r' : Outcome) (d d' b b' : List ℕ) : Type 0 where
+pub record SameOutcome (r r' : Result Outcome Refusal) (d d' b b' : List ℕ) : Type 0 where
   pub outcome : r ≡ r'
   pub directory : d ≡ d'
   pub book : b ≡ b'
 
-pub outcome_unique : (d b s : List ℕ) (r r'' : Outcome) (d' d'' b' b'' : List ℕ)
+pub outcome_unique : (d b s : List ℕ) (r r'' : Result Outcome Refusal) (d' d'' b' b'' : List ℕ)
     → record { outcome = r; directory = d'; book = b' } ≡ applied d b s
     → record { outcome = r''; directory = d''; book = b'' } ≡ applied d b s
     → SameOutcome r r'' d' d'' b' b''
@@ -82,20 +83,20 @@ figures_at w i =
     }
 
 -- the outcome with a number, a row and figures: no type byte is 0, and no side is
-abbrev outcome_of : ℕ → List ℕ → List ℕ → Outcome
+abbrev outcome_of : ℕ → List ℕ → List ℕ → Result Outcome Refusal
 outcome_of n v w =
     let m = message (nth v 0) (tail v) in
-    cond (eqb (nth v 0) 0) (Refused (refusal_of n))
-    (cond (eqb (nth w 1) 0) (Accepted m)
-    (cond (eqb (nth w 6) 0) (Moved m (figures_at w 0)) (Replaced m (figures_at w 0) (figures_at w 5))))
+    cond (eqb (nth v 0) 0) (Err (refusal_of n))
+    (cond (eqb (nth w 1) 0) (Ok (Accepted m))
+    (cond (eqb (nth w 6) 0) (Ok (Moved m (figures_at w 0))) (Ok (Replaced m (figures_at w 0) (figures_at w 5)))))
 
-outcome_back : (o : Outcome) → outcome_of (number_of o) (row_of o) (order_row o) ≡ o
-outcome_back (Refused r) = refl
-outcome_back (Accepted m) = rw (ne_eqb _ _ (letter_some m), shown_back m)
-outcome_back (Moved m f) = rw (ne_eqb _ _ (letter_some m), side_some f.side, shown_back m, side_back f.side)
-outcome_back (Replaced m f g) =
+outcome_back : (o : Result Outcome Refusal) → outcome_of (number_of o) (row_of o) (order_row o) ≡ o
+outcome_back (Err r) = ap Err (of_number r)
+outcome_back (Ok (Accepted m)) = rw (ne_eqb _ _ (letter_some m), shown_back m)
+outcome_back (Ok (Moved m f)) = rw (ne_eqb _ _ (letter_some m), side_some f.side, shown_back m, side_back f.side)
+outcome_back (Ok (Replaced m f g)) =
     rw (ne_eqb _ _ (letter_some m), side_some f.side, side_some g.side, shown_back m, side_back f.side, side_back g.side)
 
 -- two outcomes with the same numbers are one
-pub outcome_numbers_unique : (o o' : Outcome) → number_of o ≡ number_of o' → row_of o ≡ row_of o' → order_row o ≡ order_row o' → o ≡ o'
+pub outcome_numbers_unique : (o o' : Result Outcome Refusal) → number_of o ≡ number_of o' → row_of o ≡ row_of o' → order_row o ≡ order_row o' → o ≡ o'
 outcome_numbers_unique o o' n v w = sym (outcome_back o) ∙ rw (n, v, w) (outcome_back o')

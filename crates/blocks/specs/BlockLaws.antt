@@ -1,9 +1,9 @@
 -- What a whole block says of its stream, and a part of one: nobody else has to open the definitions. Assumes nothing.
-use Rattle.std.specs.Prelude.{ℕ, zero, suc, ◌+◌, ◌-◌, ◌≤◌, ◌<◌, ◌≡◌, refl, true, false, List, [], ◌∷◌, leb, length, take, drop}
-use Rattle.std.proofs.Common.{add-zero, add_assoc, arith, ap, ◌∙◌, ⊎_elim, le-leb, leb-true, length-drop, get_or-drop, drop-drop}
+use Rattle.std.specs.Prelude.{ℕ, zero, suc, ◌+◌, ◌-◌, ◌≤◌, ◌<◌, ◌≡◌, refl, true, false, Some, None, List, [], ◌∷◌, leb, length, take, drop}
+use Rattle.std.proofs.Common.{sym, add-zero, add_assoc, arith, ap, ◌∙◌, ⊎_elim, le-leb, leb-true, length-drop, get_or-drop, drop-drop}
+use Rattle.std.specs.declared.ops.Range.{Range}
 use Rattle.laws.specs.Bools.{cases, and_both, and_right}
 use Rattle.laws.specs.Field.{field}
-use Rattle.blocks.specs.declared.Block.TheVariants.{Whole, Part}
 use Rattle.blocks.specs.Blocks.{promised, whole_block, body, behind, messages_in, left_in, messages_of, left_of, block_at}
 
 -- ---- the block that begins a stream
@@ -62,11 +62,11 @@ field-drop s at i (suc w) = rw (field-drop s at i w, get_or-drop, add_assoc)
 pub promised_at : (s : List ℕ) (at : ℕ) → promised (drop at s) ≡ field s at 2
 promised_at s at = field-drop s at 0 2 ∙ ap (λ (n : ℕ). field s n 2) (add-zero at)
 
-pub at_whole : (s : List ℕ) (at : ℕ) → whole_block (drop at s) ≡ true → block_at s at ≡ Whole (at + 2) (at + 2 + promised (drop at s))
+pub at_whole : (s : List ℕ) (at : ℕ) → whole_block (drop at s) ≡ true → block_at s at ≡ Some (record { start = at + 2; end = at + 2 + promised (drop at s) })
 unfolding block_at
 at_whole s at e = rw e
 
-pub at_part : (s : List ℕ) (at : ℕ) → whole_block (drop at s) ≡ false → block_at s at ≡ Part
+pub at_part : (s : List ℕ) (at : ℕ) → whole_block (drop at s) ≡ false → block_at s at ≡ None
 unfolding block_at
 at_part s at e = rw e
 
@@ -94,13 +94,15 @@ stands s at from end w f e =
       rest = rw (e, drop-drop, add_assoc);
     }
 
-pub found : (s : List ℕ) (at from end : ℕ) → block_at s at ≡ Whole from end → FoundBlock s at from end
-found s at from end e =
+pub found : (s : List ℕ) (at : ℕ) (r : Range ℕ) → block_at s at ≡ Some r → FoundBlock s at r.start r.end
+found s at r e =
     ⊎_elim
-    (λ w. let b = at_whole s at w in stands s at from end w (cc) (cc))
+    (λ w.
+    let b : record { start = at + 2; end = at + 2 + promised (drop at s) } ≡ r = cc (at_whole s at w, e) in
+    stands s at r.start r.end w (ap (λ (x : Range ℕ). x.start) (sym b)) (ap (λ (x : Range ℕ). x.end) (sym b)))
     (λ w. let b = at_part s at w in let z : ◌≡◌ {A = ℕ} 0 1 = cc in absurd (omega arith))
     (cases (whole_block (drop at s)))
 
-pub missing : (s : List ℕ) (at : ℕ) → block_at s at ≡ Part → whole_block (drop at s) ≡ false
+pub missing : (s : List ℕ) (at : ℕ) → block_at s at ≡ None → whole_block (drop at s) ≡ false
 missing s at e =
     ⊎_elim (λ w. let b = at_whole s at w in let z : ◌≡◌ {A = ℕ} 0 1 = cc in absurd (omega arith)) (λ w. w) (cases (whole_block (drop at s)))

@@ -1,9 +1,8 @@
 -- THE DEFINITION of a block (01, 'The replay program'): a 2-byte big-endian length and that many bytes; and of the messages of an
 -- input, one a whole block. Assumes nothing.
-use Rattle.std.specs.Prelude.{ℕ, zero, suc, ◌+◌, Bool, cond, ◌&&◌, List, [], ◌∷◌, leb, length, take, drop}
+use Rattle.std.specs.Prelude.{ℕ, zero, suc, ◌+◌, Bool, cond, ◌&&◌, Option, Some, None, List, [], ◌∷◌, leb, length, take, drop}
+use Rattle.std.specs.declared.ops.Range.{Range}
 use Rattle.laws.specs.Field.{field}
-use Rattle.blocks.specs.declared.Block.{Block}
-use Rattle.blocks.specs.declared.Block.TheVariants.{Whole, Part}
 
 -- how many bytes the block that begins s promises
 abbrev pub promised : List ℕ → ℕ
@@ -36,6 +35,7 @@ messages_of s = messages_in (length s) s
 abbrev pub left_of : List ℕ → List ℕ
 left_of s = left_in (length s) s
 
--- the block that begins at `at`: where its message begins and ends
-unfoldable pub block_at : List ℕ → ℕ → Block
-block_at s at = cond (whole_block (drop at s)) (Whole (at + 2) (at + 2 + promised (drop at s))) Part
+-- where the message of the block that begins at `at` begins and ends; none where there is no whole block
+unfoldable pub block_at : List ℕ → ℕ → Option (Range ℕ)
+block_at s at =
+    cond (whole_block (drop at s)) (Some (record { start = at + 2; end = at + 2 + promised (drop at s) })) None

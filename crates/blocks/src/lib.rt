@@ -4,27 +4,19 @@
 ghost use Rattle.std.specs.Prelude.{◌≡◌};
 ghost use Rattle.blocks.specs.Blocks.{block_at};
 
-// A whole block, with where its message begins and ends; or only a part of one, or nothing.
-#[derive(Drop)]
-pub enum Block {
-    Whole(usize, usize),
-    Part,
-}
+use std::ops::Range;
 
-// The block that begins at `at`.
-pub fn block_at(s: &[u8], at: usize) -> Block
+// Where the message of the block that begins at `at` stands; none where there is only a part of a block, or nothing.
+pub fn block_at(s: &[u8], at: usize) -> Option<Range<usize>>
     ensures { result ≡ block_at s.now at }
 {
-    if at > s.len() {
-        return Block::Part;
+    let rest = s.get(at..)?;
+    if rest.len() < 2 {
+        return None;
     }
-    let left = s.len() - at;
-    if left < 2 {
-        return Block::Part;
+    let promised = usize::from(wire::u16_at(rest, 0));
+    if rest.len() - 2 < promised {
+        return None;
     }
-    let promised = wire::u16_at(s, at) as usize;
-    if left - 2 < promised {
-        return Block::Part;
-    }
-    Block::Whole(at + 2, at + 2 + promised)
+    Some(at + 2..at + 2 + promised)
 }

@@ -1,10 +1,9 @@
 -- The book as numbers (01, 'The tables the desk lends'): k map numbers, then four numbers a slot, for 64 k slots. Slot s is live
 -- when bit s mod 64 of number s / 64 is 1. The order with a given reference is the lowest live slot holding it, whatever the
 -- book contains; a new order takes the lowest free slot. Assumes nothing.
-use Rattle.std.specs.Prelude.{ℕ, ◌+◌, ◌*◌, ◌/◌, ◌%◌, ◌≤◌, ◌≡◌, Bool, cond, ◌&&◌, List, eqb, leb, ltb, get_or, set}
+use Rattle.std.specs.Prelude.{ℕ, ◌+◌, ◌*◌, ◌/◌, ◌%◌, ◌≤◌, ◌≡◌, Bool, cond, ◌&&◌, List, eqb, leb, ltb, get_or, set, Option, Some, None}
 use Rattle.laws.specs.Definitions.{bit, set_bit, clear_bit, least}
-use Rattle.book.specs.declared.Found.{Found}
-use Rattle.book.specs.declared.Found.TheVariants.{At, Nothing}
+use Rattle.kinds.specs.declared.Slot.{Slot}
 
 -- ---- shape
 
@@ -41,15 +40,15 @@ unfoldable pub is_free : List ℕ → ℕ → Bool
 is_free b s = eqb (live b s) 0
 
 -- a search's number as its answer: the slot, or none
-unfoldable pub found_below : ℕ → ℕ → Found
-found_below n s = cond (ltb s n) (At (record { 0 = s })) Nothing
+unfoldable pub found_below : ℕ → ℕ → Option Slot
+found_below n s = cond (ltb s n) (Some (record { 0 = s })) None
 
 -- the lowest live slot that holds r
-unfoldable pub find : List ℕ → ℕ → ℕ → Found
+unfoldable pub find : List ℕ → ℕ → ℕ → Option Slot
 find b k r = found_below (64 * k) (least (holds b k r) (64 * k))
 
 -- the lowest free slot
-unfoldable pub lowest_free : List ℕ → ℕ → Found
+unfoldable pub lowest_free : List ℕ → ℕ → Option Slot
 lowest_free b k = found_below (64 * k) (least (is_free b) (64 * k))
 
 -- ---- what is stored

@@ -1,13 +1,11 @@
 -- What a search that goes up has shown is what `find` and `lowest_free` answer, and what their answers say of the slot.
 -- Assumes nothing.
-use Rattle.std.specs.Prelude.{◌≡◌, Bool, true, false, List, ℕ, ◌+◌, ◌*◌, ◌≤◌, ◌<◌, eqb, get_or}
+use Rattle.std.specs.Prelude.{◌≡◌, Bool, true, false, List, ℕ, ◌+◌, ◌*◌, ◌≤◌, ◌<◌, eqb, get_or, Option, Some, None}
 use Rattle.std.proofs.Common.{sym, subst, ⊎_elim, le_refl, le_of_lt, lt_irrefl, add-zero, arith, lt-ltb, le-ltb, eq-eqb, ne_eqb, eqb-true}
 use Rattle.laws.specs.Bools.{and_left, and_right, and-false}
 use Rattle.laws.specs.Least.{least_is, least_none, least_at, lt-or-le}
 use Rattle.laws.specs.Definitions.{least}
 use Rattle.kinds.specs.declared.Slot.{Slot}
-use Rattle.book.specs.declared.Found.{Found}
-use Rattle.book.specs.declared.Found.TheVariants.{At, Nothing}
 use Rattle.book.specs.Book.{live, number_at, holds, is_free, found_below, find, lowest_free}
 
 -- ---- whether a slot holds a reference
@@ -40,24 +38,24 @@ holds_same b k r s e = eqb-true _ _ (and_right (eqb (live b s) 1) (eqb (number_a
 -- ---- for any test: the first that passes, and none
 
 pub found_at : (p : ℕ → Bool) (n s : ℕ) → s < n → ((i : ℕ) → i < s → p i ≡ false) → p s ≡ true
-    → found_below n (least p n) ≡ At (record { 0 = s })
+    → found_below n (least p n) ≡ Some (record { 0 = s })
 unfolding found_below
 found_at p n s l none here = rw (least_is p n s (le_of_lt l) none (λ _. here), lt-ltb _ _ l)
 
-pub found_none : (p : ℕ → Bool) (n : ℕ) → ((i : ℕ) → i < n → p i ≡ false) → found_below n (least p n) ≡ Nothing
+pub found_none : (p : ℕ → Bool) (n : ℕ) → ((i : ℕ) → i < n → p i ≡ false) → found_below n (least p n) ≡ None
 unfolding found_below
 found_none p n none = rw (least_is p n n (le_refl n) none (λ l. absurd (lt_irrefl n l)), le-ltb n n (le_refl n))
 
-pub below_yes : (n s : ℕ) → s < n → found_below n s ≡ At (record { 0 = s })
+pub below_yes : (n s : ℕ) → s < n → found_below n s ≡ Some (record { 0 = s })
 unfolding found_below
 below_yes n s l = rw (lt-ltb _ _ l)
 
-pub below_no : (n s : ℕ) → n ≤ s → found_below n s ≡ Nothing
+pub below_no : (n s : ℕ) → n ≤ s → found_below n s ≡ None
 unfolding found_below
 below_no n s l = rw (le-ltb _ _ l)
 
 -- an answer read back: the slot passes the test
-pub found_passes : (p : ℕ → Bool) (n : ℕ) (s : Slot) → found_below n (least p n) ≡ At s → (s.0 < n) × (p s.0 ≡ true)
+pub found_passes : (p : ℕ → Bool) (n : ℕ) (s : Slot) → found_below n (least p n) ≡ Some s → (s.0 < n) × (p s.0 ≡ true)
 found_passes p n s e =
     ⊎_elim
     (λ l.
@@ -68,7 +66,7 @@ found_passes p n s e =
     (lt-or-le (least p n) n)
 
 -- no answer read back: nothing passes the test
-pub none_passes : (p : ℕ → Bool) (n : ℕ) → found_below n (least p n) ≡ Nothing → (i : ℕ) → i < n → p i ≡ false
+pub none_passes : (p : ℕ → Bool) (n : ℕ) → found_below n (least p n) ≡ None → (i : ℕ) → i < n → p i ≡ false
 none_passes p n e i l =
     least_none p n i
     (⊎_elim
@@ -79,16 +77,16 @@ none_passes p n e i l =
 -- ---- the order with a reference
 
 pub find_at : (b : List ℕ) (k r s : ℕ) → s < 64 * k → ((i : ℕ) → i < s → holds b k r i ≡ false) → holds b k r s ≡ true
-    → At (record { 0 = s }) ≡ find b k r
+    → Some (record { 0 = s }) ≡ find b k r
 unfolding find
 find_at b k r s l none here = sym (found_at (holds b k r) (64 * k) s l none here)
 
-pub find_none : (b : List ℕ) (k r : ℕ) → ((i : ℕ) → i < 64 * k → holds b k r i ≡ false) → Nothing ≡ find b k r
+pub find_none : (b : List ℕ) (k r : ℕ) → ((i : ℕ) → i < 64 * k → holds b k r i ≡ false) → None ≡ find b k r
 unfolding find
 find_none b k r none = sym (found_none (holds b k r) (64 * k) none)
 
 -- a slot that is found is in the book, live, and holds the reference
-pub found_slot : (b : List ℕ) (k r : ℕ) (s : Slot) → find b k r ≡ At s
+pub found_slot : (b : List ℕ) (k r : ℕ) (s : Slot) → find b k r ≡ Some s
     → (s.0 < 64 * k) × (live b s.0 ≡ 1) × (number_at b k s.0 0 ≡ r)
 unfolding find
 found_slot b k r s e =
@@ -96,7 +94,7 @@ found_slot b k r s e =
     (q.0, holds-live b k r s.0 q.1, holds_same b k r s.0 q.1)
 
 -- no live slot holds a reference that is not found
-pub nowhere : (b : List ℕ) (k r : ℕ) → find b k r ≡ Nothing → (i : ℕ) → i < 64 * k → holds b k r i ≡ false
+pub nowhere : (b : List ℕ) (k r : ℕ) → find b k r ≡ None → (i : ℕ) → i < 64 * k → holds b k r i ≡ false
 unfolding find
 nowhere b k r e = none_passes (holds b k r) (64 * k) e
 
@@ -106,29 +104,29 @@ pub free_yes : (b : List ℕ) (s : ℕ) → live b s ≡ 0 → is_free b s ≡ t
 unfolding is_free
 free_yes b s e = eq-eqb _ _ e
 
-pub free_none : (b : List ℕ) (k : ℕ) → ((i : ℕ) → i < 64 * k → is_free b i ≡ false) → Nothing ≡ lowest_free b k
+pub free_none : (b : List ℕ) (k : ℕ) → ((i : ℕ) → i < 64 * k → is_free b i ≡ false) → None ≡ lowest_free b k
 unfolding lowest_free
 free_none b k none = sym (found_none (is_free b) (64 * k) none)
 
 -- the lowest free slot is in the book, and free
-pub free_slot : (b : List ℕ) (k : ℕ) (s : Slot) → lowest_free b k ≡ At s → (s.0 < 64 * k) × (live b s.0 ≡ 0)
+pub free_slot : (b : List ℕ) (k : ℕ) (s : Slot) → lowest_free b k ≡ Some s → (s.0 < 64 * k) × (live b s.0 ≡ 0)
 unfolding lowest_free is_free
 free_slot b k s e =
     let q = found_passes (is_free b) (64 * k) s e in
     (q.0, eqb-true _ _ q.1)
 
 -- where there is no lowest free slot, none is free
-pub full : (b : List ℕ) (k : ℕ) → lowest_free b k ≡ Nothing → (i : ℕ) → i < 64 * k → is_free b i ≡ false
+pub full : (b : List ℕ) (k : ℕ) → lowest_free b k ≡ None → (i : ℕ) → i < 64 * k → is_free b i ≡ false
 unfolding lowest_free
 full b k e = none_passes (is_free b) (64 * k) e
 
 -- ---- a slot that was found, or none
 
 -- it lies in the book
-abbrev pub Within : ℕ → Found → Type 0
-Within k (At s) = s.0 < 64 * k
-Within k Nothing = Unit {0}
+abbrev pub Within : ℕ → Option Slot → Type 0
+Within k (Some s) = s.0 < 64 * k
+Within k None = Unit {0}
 
-pub find_within : (b : List ℕ) (k r : ℕ) (f : Found) → f ≡ find b k r → Within k f
-find_within b k r (At s) e = (found_slot b k r s (sym e)).0
-find_within b k r Nothing e = tt
+pub find_within : (b : List ℕ) (k r : ℕ) (f : Option Slot) → f ≡ find b k r → Within k f
+find_within b k r (Some s) e = (found_slot b k r s (sym e)).0
+find_within b k r None e = tt

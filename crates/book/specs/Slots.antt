@@ -1,14 +1,12 @@
 -- What every change of one slot does: one record, `Changed`, which a slot put and a slot cleared both meet. The laws above
 -- the book go by this record alone. Assumes nothing.
-use Rattle.std.specs.Prelude.{◌≡◌, refl, List, ◌≢◌, ◌⊎◌, ℕ, ◌+◌, ◌*◌, ◌/◌, ◌%◌, ◌≤◌, ◌<◌, length, get_or, set}
+use Rattle.std.specs.Prelude.{◌≡◌, refl, List, ◌≢◌, ◌⊎◌, ℕ, ◌+◌, ◌*◌, ◌/◌, ◌%◌, ◌≤◌, ◌<◌, length, get_or, set, Option, Some, None}
 use Rattle.std.proofs.Common.{sym, ap, ◌∙◌, ⊎_elim, inl, inr, add-zero, arith, length-set, get_or-set_same, get_or-set_other}
 use Rattle.laws.specs.Bit.{set_bit-same, set_bit_other, clear_bit-same, clear_bit_other}
 use Rattle.laws.specs.Bools.{true_not_false}
 use Rattle.laws.specs.Least.{same_or, lt-or-le}
 use Rattle.laws.specs.Definitions.{bit, set_bit, clear_bit}
 use Rattle.kinds.specs.declared.Slot.{Slot}
-use Rattle.book.specs.declared.Found.{Found}
-use Rattle.book.specs.declared.Found.TheVariants.{At, Nothing}
 use Rattle.book.specs.Book.{live, number_at, is_free, lowest_free, four, put_slot, clear_slot}
 use Rattle.book.specs.Finds.{free_yes, full}
 use Rattle.book.specs.Shape.{Sized}
@@ -130,11 +128,11 @@ clear_sized b k s z = record { size = clear_length b k s ∙ z.size; most = z.mo
 -- ---- what a search then finds
 
 -- a slot that is cleared is free, so one is found
-pub cleared_room : (b : List ℕ) (k s : ℕ) → Sized b k → s < 64 * k → (t : Slot) × (lowest_free (clear_slot b k s) k ≡ At t)
+pub cleared_room : (b : List ℕ) (k s : ℕ) → Sized b k → s < 64 * k → (t : Slot) × (lowest_free (clear_slot b k s) k ≡ Some t)
 cleared_room b k s z l = go (lowest_free (clear_slot b k s) k) refl
   where
-    go : (f : Found) → lowest_free (clear_slot b k s) k ≡ f → (t : Slot) × (f ≡ At t)
-    go (At t) e = (t, refl)
-    go Nothing e =
+    go : (f : Option Slot) → lowest_free (clear_slot b k s) k ≡ f → (t : Slot) × (f ≡ Some t)
+    go (Some t) e = (t, refl)
+    go None e =
         let c = clear_slot b k s in
         absurd (true_not_false (is_free c s) (free_yes c s (clear_changed b k s z.size l).bit_at) (full c k e s l))

@@ -1,11 +1,10 @@
 -- The book's slots a map number at a time: slot i of map number j is slot 64 j + i. A search that goes up by map numbers
 -- has shown what `find` and `lowest_free` answer. Assumes nothing.
-use Rattle.std.specs.Prelude.{◌≡◌, Bool, true, false, List, ℕ, ◌+◌, ◌-◌, ◌*◌, ◌/◌, ◌%◌, ◌^◌, ◌≤◌, ◌<◌, eqb, get_or}
-use Rattle.std.proofs.Common.{sym, ap, ◌∙◌, subst, ⊎_elim, le_refl, le_of_lt, lt_irrefl, div-one, pow-suc, add-one, arith, below_more, below_none, eq-eqb, ne_eqb}
+use Rattle.std.specs.Prelude.{◌≡◌, Bool, true, false, List, ℕ, ◌+◌, ◌-◌, ◌*◌, ◌/◌, ◌%◌, ◌^◌, ◌≤◌, ◌<◌, eqb, get_or, Some}
+use Rattle.std.proofs.Common.{sym, ap, ◌∙◌, subst, ⊎_elim, le_refl, le_of_lt, lt_irrefl, pow-suc, add-one, arith, below_more, eq-eqb, ne_eqb}
 use Rattle.std.proofs.Math.Nat.{div-div-eq-div-mul}
 use Rattle.laws.specs.Least.{least_is, least_none, least_at, least_ext, lt-or-le}
 use Rattle.laws.specs.Definitions.{bit, least}
-use Rattle.book.specs.declared.Found.TheVariants.{At}
 use Rattle.book.specs.Book.{live, holds, is_free, found_below, find, lowest_free}
 use Rattle.book.specs.Finds.{number_0, holds_yes, holds_dead, holds_other, found_at}
 
@@ -57,7 +56,7 @@ below_or_in p j n old new i l =
 
 -- t is what the search through map number j gave: it is the answer, for any test
 block_at : (p : ℕ → Bool) (k j t : ℕ) → j < k → ((i : ℕ) → i < 64 * j → p i ≡ false)
-    → t ≡ least (λ i. p (64 * j + i)) 64 → t < 64 → At (record { 0 = 64 * j + t }) ≡ found_below (64 * k) (least p (64 * k))
+    → t ≡ least (λ i. p (64 * j + i)) 64 → t < 64 → Some (record { 0 = 64 * j + t }) ≡ found_below (64 * k) (least p (64 * k))
 block_at p k j t lj old e l =
     sym
     (found_at p (64 * k) (64 * j + t) (omega arith)
@@ -70,7 +69,7 @@ block_more : (p : ℕ → Bool) (j t : ℕ) → ((i : ℕ) → i < 64 * j → p 
 block_more p j t old e l i h = below_or_in p j 64 old (λ i q. least_none (λ i. p (64 * j + i)) 64 i (omega arith)) i (omega arith)
 
 pub word_at : (b : List ℕ) (k r j t : ℕ) → j < k → ((i : ℕ) → i < 64 * j → holds b k r i ≡ false)
-    → t ≡ least (in_word b k r j) 64 → t < 64 → At (record { 0 = 64 * j + t }) ≡ find b k r
+    → t ≡ least (in_word b k r j) 64 → t < 64 → Some (record { 0 = 64 * j + t }) ≡ find b k r
 unfolding in_word find
 word_at b k r j t lj old e l = block_at (holds b k r) k j t lj old e l
 
@@ -91,7 +90,7 @@ unfolding is_zero is_free
 free_word b j i l = ap (λ (x : ℕ). eqb x 0) (sym (live_word b j i l))
 
 pub free_word_at : (b : List ℕ) (k j t : ℕ) → j < k → ((i : ℕ) → i < 64 * j → is_free b i ≡ false)
-    → t ≡ least (is_zero (get_or b j 0)) 64 → t < 64 → At (record { 0 = 64 * j + t }) ≡ lowest_free b k
+    → t ≡ least (is_zero (get_or b j 0)) 64 → t < 64 → Some (record { 0 = 64 * j + t }) ≡ lowest_free b k
 unfolding lowest_free
 free_word_at b k j t lj old e l =
     block_at (is_free b) k j t lj old (e ∙ least_ext (is_zero (get_or b j 0)) (λ i. is_free b (64 * j + i)) 64 (free_word b j)) l
@@ -108,9 +107,6 @@ pub record Halved (w i rest : ℕ) : Type 0 where
   pub below : i ≤ 64
   pub rests : rest ≡ w / 2 ^ i
   pub ones : (t : ℕ) → t < i → is_zero w t ≡ false
-
-pub word_whole : (w : ℕ) → Halved w 0 w
-word_whole w = record { below = omega arith; rests = sym (div-one w); ones = below_none (λ t. is_zero w t ≡ false) }
 
 halving : (w i : ℕ) → w / 2 ^ i / 2 ≡ w / 2 ^ (i + 1)
 halving w i = div-div-eq-div-mul w (2 ^ i) 2 ∙ ap (λ (x : ℕ). w / x) (sym (rw add-one (pow-suc 2 i)))

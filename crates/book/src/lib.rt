@@ -2,7 +2,7 @@
 // slot's four numbers mean.
 #![tactic(auto)]
 
-ghost use Rattle.std.specs.Prelude.{◌≡◌, ◌+◌, ◌*◌, ◌^◌, ◌<◌, length};
+ghost use Rattle.std.specs.Prelude.{◌≡◌, IfNone, IfSome, ◌+◌, ◌*◌, ◌^◌, ◌<◌, length};
 ghost use Rattle.laws.specs.Definitions.{bit, clear_bit, set_bit, least};
 ghost use Rattle.book.specs.Book.{clear_slot, four, lowest_free, number_at, put_slot, words_of};
 ghost use Rattle.book.specs.Shape.{Sized};
@@ -10,16 +10,11 @@ ghost use Rattle.book.specs.Words.{is_zero};
 
 use kinds::Slot;
 
-#[derive(Drop)]
-pub enum Found {
-    At(Slot),
-    Nothing,
-}
-
 // The most map numbers that a book may have.
 const MOST_WORDS: usize = 64;
 
-// How many map numbers a book of n numbers has; 0 where n is no book's length.
+// How many map numbers a book of n numbers has; 0 where n is no book's length, as the definition that all statements cite has it; `Book::of`
+// is the form with an Option.
 pub fn words_of(n: usize) -> usize
     ensures { result ≡ words_of n }
 {
@@ -33,12 +28,47 @@ pub fn words_of(n: usize) -> usize
     k
 }
 
-// Number i of a slot.
-pub fn number_at(book: &[u64], k: usize, slot: Slot, i: usize) -> u64
-    requires { Sized book.now k × (slot.0 < 64 * k) × (i < 4) }
-    ensures { result ≡ number_at book.now k slot.0 i }
-{
-    book[k + 4 * slot.0 + i]
+// A book that is lent, with how many map numbers it has.
+#[derive(Clone, Copy)]
+pub struct Book<'b> {
+    pub numbers: &'b [u64],
+    pub k: usize,
+    pub ghost sized: { Sized numbers.now k },
+}
+
+impl<'b> Book<'b> {
+    // The book that these numbers are, where they are as many as a book has.
+    pub fn of(numbers: &'b [u64]) -> Option<Book<'b>>
+        ensures shapeless { IfNone result (words_of (length numbers.now) ≡ 0) }
+        ensures shaped { IfSome result (λ b. (b.numbers.now ≡ numbers.now) × (b.k ≡ words_of (length numbers.now)) × (0 < b.k)) }
+    {
+        let k = words_of(numbers.len());
+        if k == 0 {
+            return None;
+        }
+        Some(Book { numbers, k })
+    }
+
+    // Number i of a slot.
+    pub fn number_at(self, slot: Slot, i: usize) -> u64
+        requires { (slot.0 < 64 * self.k) × (i < 4) }
+        ensures { result ≡ number_at self.entry.numbers.now self.entry.k slot.0 i }
+    {
+        self.numbers[self.k + 4 * slot.0 + i]
+    }
+
+    // The lowest free slot.
+    pub fn lowest_free(self) -> Option<Slot>
+        ensures { result ≡ lowest_free self.entry.numbers.now self.entry.k }
+    {
+        for j in 0..self.k {
+            let i = free_in(self.numbers[j]);
+            if i < 64 {
+                return Some(Slot(64 * j + i));
+            }
+        }
+        None
+    }
 }
 
 // ---- the map's bits
@@ -76,41 +106,23 @@ fn without_bit(w: u64, i: usize) -> u64
 
 // ---- which slot is free
 
-// The lowest free slot of a map number, tried slot by slot; 64 where all are live.
+// The lowest free slot of a map number, tried slot by slot; 64 where all are live, as `least` says it in the definition.
 fn free_in(w: u64) -> usize
     ensures { result ≡ least (is_zero w) 64 }
 {
     let mut rest = w;
-    let mut i: usize = 0;
-    while i < 64 {
+    for i in 0..64 {
         if rest % 2 == 0 {
             return i;
         }
-        rest = rest / 2;
-        i += 1;
+        rest /= 2;
     }
     64
 }
 
-// The lowest free slot.
-pub fn lowest_free(book: &[u64], k: usize) -> Found
-    requires { Sized book.now k }
-    ensures { result ≡ lowest_free book.now k }
-{
-    let mut j: usize = 0;
-    while j < k {
-        let i = free_in(book[j]);
-        if i < 64 {
-            return Found::At(Slot(64 * j + i));
-        }
-        j += 1;
-    }
-    Found::Nothing
-}
-
 // ---- what is stored
 
-// Four numbers from place a on.
+// Four numbers from place a on. (Four, and no array: the caller makes each where it is stored.)
 fn put_four(book: &mut [u64], a: usize, n0: u64, n1: u64, n2: u64, n3: u64)
     requires { a + 3 < length book.old }
     ensures { book.new ≡ four book.old a n0 n1 n2 n3 }
@@ -121,24 +133,59 @@ fn put_four(book: &mut [u64], a: usize, n0: u64, n1: u64, n2: u64, n3: u64)
     book[a + 3] = n3;
 }
 
-// A slot made live with these four numbers.
-pub fn put_slot(book: &mut [u64], k: usize, slot: Slot, n0: u64, n1: u64, n2: u64, n3: u64)
-    requires { Sized book.old k × (slot.0 < 64 * k) }
-    ensures { book.new ≡ put_slot book.old k slot.0 n0 n1 n2 n3 }
-{
-    let s = slot.0;
-    let j = s / 64;
-    book[j] = with_bit(book[j], s % 64);
-    put_four(book, k + 4 * s, n0, n1, n2, n3);
+// A book that is lent to be changed, with how many map numbers it has.
+#[derive(Drop)]
+pub struct BookMut<'b> {
+    pub numbers: &'b mut [u64],
+    pub k: usize,
+    pub ghost sized: { Sized numbers.now k },
 }
 
-// A slot made free, its four numbers zero, whatever it was.
-pub fn clear_slot(book: &mut [u64], k: usize, slot: Slot)
-    requires { Sized book.old k × (slot.0 < 64 * k) }
-    ensures { book.new ≡ clear_slot book.old k slot.0 }
-{
-    let s = slot.0;
-    let j = s / 64;
-    book[j] = without_bit(book[j], s % 64);
-    put_four(book, k + 4 * s, 0, 0, 0, 0);
+impl<'b> BookMut<'b> {
+    ghost use Rattle.book.specs.Lent.{SameBook};
+
+    // These numbers, lent.
+    pub fn new(numbers: &'b mut [u64], k: usize) -> BookMut<'b>
+        requires { Sized numbers.old k }
+        ensures same_reference { result.numbers.ghost_name ≡ numbers.entry.ghost_name }
+        ensures same { (result.numbers.now ≡ numbers.old) × (result.k ≡ k) }
+    {
+        BookMut { numbers, k }
+    }
+
+    // As it stands.
+    pub fn look(&self) -> Book<'_>
+        ensures { (result.numbers.now ≡ self.now.numbers.now) × (result.k ≡ self.now.k) }
+    {
+        Book {
+            numbers: self.numbers,
+            k: self.k,
+        }
+    }
+
+    // A slot made live with these four numbers.
+    pub fn put(&mut self, slot: Slot, n0: u64, n1: u64, n2: u64, n3: u64)
+        requires { slot.0 < 64 * self.old.k }
+        ensures same { SameBook self.old self.new }
+        ensures stored { self.new.numbers.now ≡ put_slot self.old.numbers.now self.old.k slot.0 n0 n1 n2 n3 }
+    {
+        let s = slot.0;
+        let j = s / 64;
+        let a = self.k + 4 * s;
+        self.numbers[j] = with_bit(self.numbers[j], s % 64);
+        put_four(self.numbers, a, n0, n1, n2, n3);
+    }
+
+    // A slot made free, its four numbers zero, whatever it was.
+    pub fn clear(&mut self, slot: Slot)
+        requires { slot.0 < 64 * self.old.k }
+        ensures same { SameBook self.old self.new }
+        ensures cleared { self.new.numbers.now ≡ clear_slot self.old.numbers.now self.old.k slot.0 }
+    {
+        let s = slot.0;
+        let j = s / 64;
+        let a = self.k + 4 * s;
+        self.numbers[j] = without_bit(self.numbers[j], s % 64);
+        put_four(self.numbers, a, 0, 0, 0, 0);
+    }
 }

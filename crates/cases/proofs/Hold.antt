@@ -1,6 +1,6 @@
 -- THE CLAIM: every row of the table of starred cases holds. One test computes them all, and a law takes it to each row.
 -- Assumes nothing.
-use Rattle.std.specs.Prelude.{◌≡◌, refl, Bool, true, false, ◌&&◌, ℕ, eqb, replicate}
+use Rattle.std.specs.Prelude.{◌≡◌, refl, Bool, true, false, ◌&&◌, ℕ, eqb, replicate, Result}
 use Rattle.std.proofs.Common.{ap₂, eqb-true}
 use Rattle.std.proofs.lemmas.Bool.{false≢true}
 use mathlib.Core.List.Memᴰ.{head as here}
@@ -21,7 +21,6 @@ use Rattle.directory.specs.Directory.{most_numbers, good_length, entry_at, regis
 use Rattle.book.specs.Book.{most_words, words_of, live, number_at, holds, is_free, found_below, find, lowest_free, four, put_slot, clear_slot}
 use Rattle.orders.specs.Order.{remaining, executed_by, cancelled_by, closed_of, second, third, fourth, sound, order_of, held}
 use Rattle.fresh.specs.Fresh.{good_shapes, made_number, made_of}
-use Rattle.apply.specs.declared.Outcome.{Outcome}
 use Rattle.apply.specs.Apply.{applied, number_of}
 use Rattle.apply.specs.Runs.{Tables, fresh_tables, tables_after, answer_to}
 use Rattle.accounts.specs.Accounts.{order_asked}
@@ -31,6 +30,8 @@ use Rattle.replies.specs.Replies.{account_number, account_row, quote_number, lev
 use Rattle.outcomes.specs.Outcomes.{order_row}
 use Rattle.cases.specs.Table.{Case, read, run, account, level, shape, table}
 use Rattle.cases.specs.Hold.{tables, Left, Holds}
+use Rattle.apply.specs.declared.Outcome.{Outcome}
+use Rattle.refusals.specs.declared.Refusal.{Refusal}
 
 -- ---- the same as a test
 
@@ -47,7 +48,7 @@ same_true (x ∷ xs) [] e = absurd (false≢true e)
 same_true (x ∷ xs) (y ∷ ys) e =
     ap₂ ◌∷◌ (eqb-true x y (and_left (eqb x y) (same xs ys) e)) (same_true xs ys (and_right (eqb x y) (same xs ys) e))
 
-abbrev ran : Outcome → Tables → ℕ → List ℕ → List ℕ → List ℕ → Bool
+abbrev ran : Result Outcome Refusal → Tables → ℕ → List ℕ → List ℕ → List ℕ → Bool
 ran o t n figures d b = eqb (number_of o) n && (same (order_row o) figures && (same t.directory d && same t.book b))
 
 abbrev passes : Case → Bool
@@ -72,7 +73,7 @@ computed = refl
 
 -- ---- and back
 
-ran_left : (o : Outcome) (t : Tables) (n : ℕ) (figures d b : List ℕ) → ran o t n figures d b ≡ true → Left o t n figures d b
+ran_left : (o : Result Outcome Refusal) (t : Tables) (n : ℕ) (figures d b : List ℕ) → ran o t n figures d b ≡ true → Left o t n figures d b
 ran_left o t n figures d b e =
     let t0 = eqb (number_of o) n in
     let t1 = same (order_row o) figures in

@@ -1,10 +1,9 @@
 -- What each row of the table of starred cases claims. Assumes nothing.
-use Rattle.std.specs.Prelude.{◌≡◌, ℕ, replicate}
+use Rattle.std.specs.Prelude.{◌≡◌, ℕ, replicate, Result}
 use mathlib.Core.List.{List, []}
 use Rattle.reader.specs.Read.{answer}
 use Rattle.numbers.specs.Shown.{answer_number}
 use Rattle.fresh.specs.Fresh.{made_number, made_of}
-use Rattle.apply.specs.declared.Outcome.{Outcome}
 use Rattle.apply.specs.Apply.{number_of}
 use Rattle.apply.specs.Runs.{Tables, fresh_tables, tables_after, answer_to, reached}
 use Rattle.accounts.specs.Accounts.{order_asked}
@@ -12,13 +11,15 @@ use Rattle.levels.specs.Levels.{level_of}
 use Rattle.replies.specs.Replies.{account_number, account_row, quote_number, level_row}
 use Rattle.outcomes.specs.Outcomes.{order_row}
 use Rattle.cases.specs.Table.{Case, read, run, account, level, shape}
+use Rattle.apply.specs.declared.Outcome.{Outcome}
+use Rattle.refusals.specs.declared.Refusal.{Refusal}
 
 -- both tables after messages applied in turn
 abbrev pub tables : List (List ℕ) → Tables
 tables ms = reached (fresh_tables 2 257) ms
 
 -- an answer and both tables are those of a row
-pub record Left (o : Outcome) (t : Tables) (n : ℕ) (figures d b : List ℕ) : Type 0 where
+pub record Left (o : Result Outcome Refusal) (t : Tables) (n : ℕ) (figures d b : List ℕ) : Type 0 where
   pub number : number_of o ≡ n
   pub orders : order_row o ≡ figures
   pub directory : t.directory ≡ d

@@ -5,34 +5,22 @@ ghost use Rattle.std.specs.Prelude.{◌≡◌};
 ghost use Rattle.book.specs.Shape.{Sized};
 ghost use Rattle.census.specs.Census.{count_asked, live_count};
 
-use refusals::{Refusal, SHAPE};
+use book::Book;
+use refusals::Refusal;
 
-#[derive(Drop)]
-pub enum Counted {
-    Refused(Refusal),
-    Live(u64),
-}
-
-// The one bits of all map numbers.
-fn count_live(book: &[u64], k: usize) -> u64
-    requires { Sized book.now k }
-    ensures { result ≡ live_count book.now k }
+// The one bits of all map numbers; not of a `Book`, since the proof at the chain's end is told what fits of an argument alone.
+fn count_live(numbers: &[u64], k: usize) -> u64
+    requires { Sized numbers.now k }
+    ensures { result ≡ live_count numbers.now k }
 {
-    let mut n: u64 = 0;
-    let mut j: usize = 0;
-    while j < k {
-        n += u64::count_ones(book[j]) as u64;
-        j += 1;
-    }
-    n
+    numbers[..k].iter().map(|w| u64::from(w.count_ones())).sum()
 }
 
-pub fn live_count(book: &[u64]) -> Counted
+pub fn live_count(book: &[u64]) -> Result<u64, Refusal>
     ensures { result ≡ count_asked book.now }
 {
-    let k = book::words_of(book.len());
-    if k == 0 {
-        return Counted::Refused(Refusal::of(SHAPE));
-    }
-    Counted::Live(count_live(book, k))
+    let Some(whole) = Book::of(book) else {
+        return Err(Refusal::Shape);
+    };
+    Ok(count_live(whole.numbers, whole.k))
 }

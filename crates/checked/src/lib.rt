@@ -1,82 +1,46 @@
 // Fields read and checked: each call gives what stands at a place and the faults found in it. It knows the kinds of
 // fields, and no message.
-#![tactic(auto)]
+#![tactic(auto, unfolding(wellformed::specs::WellFormed::good_time, wellformed::specs::WellFormed::good_shares))]
 
 ghost use Rattle.std.specs.Prelude.{◌≡◌, ◌+◌, ◌≤◌, ◌*◌, length};
 ghost use Rattle.laws.specs.Bools.{fault};
-ghost use Rattle.kinds.specs.Sides.{good_side};
-ghost use Rattle.wellformed.specs.WellFormed.{good_printable};
-ghost use Rattle.checked.specs.Checked.{AreThreePrices, AreTwoPrices, IsHeaded, IsLot, IsPriced, IsPrintable, IsShares, IsSided, IsText4, IsText8};
+ghost use Rattle.checked.specs.Checked.{ArePrices, IsHeaded, IsLot, IsPriced, IsPrintable, IsShares, IsSided, IsText4, IsText8};
 
-use kinds::{Admission, Locate, Price, Side};
+use kinds::{Locate, Price, Side};
 use messages::Head;
 
+// In nanoseconds.
+const DAY: u64 = 86_400_000_000_000;
+
+// What was read, and the faults found in it.
 #[derive(Drop)]
-pub struct Headed {
-    pub head: Head,
+pub struct Checked<T> {
+    pub value: T,
     pub faults: u64,
 }
 
-#[derive(Drop)]
-pub struct Shares {
-    pub shares: u32,
-    pub faults: u64,
+impl<T> Checked<T> {
+    // A value read, which counts a unit of faults where its test has failed.
+    #[tactic(auto, unfolding(laws::specs::Bools::fault))]
+    fn tested(value: T, good: bool, unit: u64) -> Checked<T>
+        ensures { (result.value ≡ value) × (result.faults ≡ unit * fault good) × (result.faults ≤ unit) }
+    {
+        Checked {
+            value,
+            faults: if good { 0 } else { unit },
+        }
+    }
 }
 
-#[derive(Drop)]
-pub struct Priced {
-    pub price: Price,
-    pub faults: u64,
-}
-
-#[derive(Drop)]
-pub struct TwoPrices {
-    pub first: Price,
-    pub second: Price,
-    pub faults: u64,
-}
-
-#[derive(Drop)]
-pub struct ThreePrices {
-    pub first: Price,
-    pub second: Price,
-    pub third: Price,
-    pub faults: u64,
-}
-
-#[derive(Drop)]
-pub struct Sided {
-    pub side: Side,
-    pub faults: u64,
-}
-
+// A side, and the shares behind it.
 #[derive(Drop)]
 pub struct Lot {
     pub side: Side,
     pub shares: u32,
-    pub faults: u64,
-}
-
-#[derive(Drop)]
-pub struct Printable {
-    pub printable: u8,
-    pub faults: u64,
-}
-
-#[derive(Drop)]
-pub struct Text8 {
-    pub text: u64,
-    pub faults: u64,
-}
-
-#[derive(Drop)]
-pub struct Text4 {
-    pub text: u32,
-    pub faults: u64,
 }
 
 // The fields that every message begins with.
-pub fn head_at(s: &[u8]) -> Headed
+pub fn head_at(s: &[u8]) -> Checked<Head>
     requires { 11 ≤ length s.now }
     ensures { IsHeaded s.now result }
 {
@@ -86,162 +50,107 @@ pub fn head_at(s: &[u8]) -> Headed
         tracking_number: wire::u16_at(s, 3),
         timestamp: time,
     };
-    if time < 86400000000000 {
-        Headed {
-            head: head,
-            faults: 0,
-        }
-    } else {
-        Headed {
-            head: head,
-            faults: 512,
-        }
-    }
+    Checked::tested(head, time < DAY, 512)
 }
 
 // Shares, of which there must be at least one.
-pub fn shares_at(s: &[u8], at: usize) -> Shares
+pub fn shares_at(s: &[u8], at: usize) -> Checked<u32>
     requires { at + 4 ≤ length s.now }
     ensures { IsShares s.now at result }
 {
     let n = wire::u32_at(s, at);
-    if n == 0 {
-        Shares {
-            shares: n,
-            faults: 1,
-        }
-    } else {
-        Shares {
-            shares: n,
-            faults: 0,
-        }
-    }
+    Checked::tested(n, n != 0, 1)
 }
 
 // A Price (4), which stands at 0 while it is refused.
-pub fn price_at(s: &[u8], at: usize) -> Priced
+#[tactic(auto, unfolding(kinds::specs::Admission::admission, wellformed::specs::WellFormed::good_price, wellformed::specs::FaultSum::price_held, laws::specs::Bools::fault))]
+pub fn price_at(s: &[u8], at: usize) -> Checked<Price>
     requires { at + 4 ≤ length s.now }
     ensures { IsPriced s.now at result }
 {
-    let a = Price::admit(wire::u32_at(s, at));
-    let Admission::Admitted(p) = a else {
-        return Priced {
-            price: Price(0),
+    match Price::try_from(wire::u32_at(s, at)) {
+        Ok(price) => Checked {
+            value: price,
+            faults: 0,
+        },
+        Err(_) => Checked {
+            value: Price(0),
             faults: 2,
-        };
-    };
-    Priced {
-        price: p,
-        faults: 0,
+        },
     }
-}
-
-fn side_faults(byte: u64) -> u64
-    ensures { (result ≡ 16 * fault (good_side byte)) × (result ≤ 16) }
-{
-    let good = Side::good(byte);
-    if good { 0 } else { 16 }
 }
 
 // A side, which stands at Sell while it is refused.
-pub fn side_at(s: &[u8], at: usize) -> Sided
+#[tactic(auto, unfolding(wellformed::specs::FaultSum::side_held))]
+pub fn side_at(s: &[u8], at: usize) -> Checked<Side>
     requires { at + 1 ≤ length s.now }
     ensures { IsSided s.now at result }
 {
-    let byte = wire::u8_at(s, at) as u64;
-    Sided {
-        side: Side::of(byte),
-        faults: side_faults(byte),
-    }
+    let byte = u64::from(wire::u8_at(s, at));
+    Checked::tested(Side::of(byte), Side::good(byte), 16)
 }
 
 // A side, and the shares behind it.
-pub fn lot_at(s: &[u8], at: usize) -> Lot
+pub fn lot_at(s: &[u8], at: usize) -> Checked<Lot>
     requires { at + 5 ≤ length s.now }
     ensures { IsLot s.now at result }
 {
-    let a = side_at(s, at);
-    let side = a.side;
-    let b = shares_at(s, at + 1);
-    Lot {
-        side,
-        shares: b.shares,
-        faults: a.faults + b.faults,
+    let side = side_at(s, at);
+    let shares = shares_at(s, at + 1);
+    Checked {
+        faults: side.faults + shares.faults,
+        value: Lot {
+            side: side.value,
+            shares: shares.value,
+        },
     }
 }
 
-// Y is 89 and odd, N is 78 and even.
-fn printable_faults(b: u8) -> u64
-    ensures { (result ≡ 16 * fault (good_printable b)) × (result ≤ 16) }
-{
-    if b == 78 + 11 * (b % 2) { 0 } else { 16 }
-}
-
-pub fn printable_at(s: &[u8], at: usize) -> Printable
+// Y is 89 and odd, N is 78 and even: one test for both does not branch on which it is.
+#[tactic(auto, using(wellformed::specs::Faults::printable_test))]
+pub fn printable_at(s: &[u8], at: usize) -> Checked<u8>
     requires { at + 1 ≤ length s.now }
     ensures { IsPrintable s.now at result }
 {
     let b = wire::u8_at(s, at);
-    Printable {
-        printable: b,
-        faults: printable_faults(b),
-    }
+    Checked::tested(b, b == 78 + 11 * (b % 2), 16)
 }
 
-// A Stock.
-pub fn text8_at(s: &[u8], at: usize) -> Text8
+// A Stock. (A trait over u64 and u32 for this and the next would be longer than both.)
+pub fn text8_at(s: &[u8], at: usize) -> Checked<u64>
     requires { at + 8 ≤ length s.now }
     ensures { IsText8 s.now at result }
 {
     let v = wire::u64_at(s, at);
-    Text8 {
-        text: v,
+    Checked {
+        value: v,
         faults: 16 * text::text8(v),
     }
 }
 
 // An MPID or an Attribution.
-pub fn text4_at(s: &[u8], at: usize) -> Text4
+pub fn text4_at(s: &[u8], at: usize) -> Checked<u32>
     requires { at + 4 ≤ length s.now }
     ensures { IsText4 s.now at result }
 {
     let v = wire::u32_at(s, at);
-    Text4 {
-        text: v,
+    Checked {
+        value: v,
         faults: 16 * text::text4(v),
     }
 }
 
-// Two prices side by side.
-pub fn two_prices_at(s: &[u8], at: usize) -> TwoPrices
-    requires { at + 8 ≤ length s.now }
-    ensures { AreTwoPrices s.now at result }
+// Prices side by side.
+pub fn prices_at<const N: usize>(s: &[u8], at: usize) -> Checked<[Price; N]>
+    requires { at + 4 * N ≤ length s.now }
+    ensures { ArePrices N s.now at result }
 {
-    let a = price_at(s, at);
-    let first = a.price;
-    let b = price_at(s, at + 4);
-    let second = b.price;
-    TwoPrices {
-        first,
-        second,
-        faults: a.faults + b.faults,
+    let mut value = [Price(0); N];
+    let mut faults = 0;
+    for i in 0..N {
+        let price = price_at(s, at + 4 * i);
+        value[i] = price.value;
+        faults += price.faults;
     }
-}
-
-// Three prices side by side.
-pub fn three_prices_at(s: &[u8], at: usize) -> ThreePrices
-    requires { at + 12 ≤ length s.now }
-    ensures { AreThreePrices s.now at result }
-{
-    let a = two_prices_at(s, at);
-    let first = a.first;
-    let second = a.second;
-    let b = price_at(s, at + 8);
-    let third = b.price;
-    ThreePrices {
-        first,
-        second,
-        third,
-        faults: a.faults + b.faults,
-    }
+    Checked { value, faults }
 }

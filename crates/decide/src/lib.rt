@@ -4,11 +4,9 @@
 
 ghost use Rattle.std.specs.Prelude.{◌≡◌};
 ghost use Rattle.decide.specs.Figured.{figures_of};
-ghost use Rattle.refusals.specs.Refusals.{refusal_of};
 
 use kinds::{Locate, Price, Side};
 use orders::Order;
-use refusals::Refusal;
 
 // What the answer says of an order: its locate, side and price, the shares taken from it or put, and what then remains.
 #[derive(Drop)]
@@ -20,10 +18,9 @@ pub struct Figures {
     pub remains: u32,
 }
 
-// What a message comes to: refused, accepted with no order concerned, or with the figures of one order or of two.
+// What an accepted message comes to: no order is concerned, or the figures of one order or of two.
 #[derive(Drop)]
 pub enum Step {
-    Refused(Refusal),
     Plain,
     One(Figures),
     Two(Figures, Figures),
@@ -42,10 +39,4 @@ pub fn figured(o: Order, shares: u32, remains: u32) -> Figures
         shares,
         remains,
     }
-}
-
-pub fn refuse(n: u8) -> Step
-    ensures { result ≡ Step.Refused (refusal_of n) }
-{
-    Step::Refused(Refusal::of(n))
 }

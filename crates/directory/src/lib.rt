@@ -6,13 +6,6 @@ ghost use Rattle.directory.specs.Directory.{entry_at, good_length, registered};
 
 use kinds::Locate;
 
-// What stands at a locate; a symbol of 0 is none.
-#[derive(Drop)]
-pub enum Entry {
-    Outside,
-    Symbol(u64),
-}
-
 // The most numbers that a directory may have.
 const MOST_NUMBERS: usize = 8192;
 
@@ -23,17 +16,18 @@ pub fn good_length(n: usize) -> bool
     2 <= n && n <= MOST_NUMBERS
 }
 
-pub fn entry_at(directory: &[u64], locate: Locate) -> Entry
+// The symbol that stands at a locate, 0 where none is registered; none at a locate outside the directory.
+pub fn entry_at(directory: &[u64], locate: Locate) -> Option<u64>
     ensures { result ≡ entry_at directory.now locate.0 }
 {
     let l = locate.0 as usize;
     if l == 0 {
-        return Entry::Outside;
+        return None;
     }
     if l < directory.len() {
-        Entry::Symbol(directory[l])
+        Some(directory[l])
     } else {
-        Entry::Outside
+        None
     }
 }
 

@@ -5,24 +5,22 @@ ghost use Rattle.decide.specs.Decide.{registering};
 ghost use Rattle.directory.specs.Directory.{entry_at};
 ghost use Rattle.enroll.specs.Enrolled.{Enrolled};
 
-use decide::{Step, refuse};
-use directory::Entry;
+use decide::Step;
 use kinds::Locate;
-use refusals::{CONFLICT, STOCK};
+use refusals::Refusal;
 
-pub fn enroll(directory: &mut [u64], locate: Locate, symbol: u64) -> Step
+pub fn enroll(directory: &mut [u64], locate: Locate, symbol: u64) -> Result<Step, Refusal>
     ensures { Enrolled directory.old (registering (entry_at directory.old locate.0) locate.0 symbol) result directory.new }
 {
-    let entry = directory::entry_at(directory, locate);
-    let Entry::Symbol(registered) = entry else {
-        return refuse(STOCK);
+    let Some(registered) = directory::entry_at(directory, locate) else {
+        return Err(Refusal::Stock);
     };
     if registered == 0 {
         directory::register(directory, locate, symbol);
-        return Step::Plain;
+        return Ok(Step::Plain);
     }
     if registered != symbol {
-        return refuse(CONFLICT);
+        return Err(Refusal::Conflict);
     }
-    Step::Plain
+    Ok(Step::Plain)
 }

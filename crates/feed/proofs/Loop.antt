@@ -1,35 +1,17 @@
 -- The loop's idea: the whole run is the records so far and then the run of what is left. So a turn moves a block's record from the
 -- second to the first, and where no block is taken the second is empty. Assumes nothing.
-use Rattle.std.proofs.Common.{◌≡◌, ℕ, ◌+◌, ◌-◌, ◌<◌, ◌≤◌, Bool, true, false, ◌&&◌, leb, List, ◌++◌, length, take, drop, sym, refl, ap, ◌∙◌, subst, append_assoc, append-nil, arith, length-append, length-drop, take-append-drop, length-take-le, drop-drop, take_at, drop_at, le-leb}
+use Rattle.std.proofs.Common.{◌≡◌, ℕ, ◌+◌, ◌-◌, ◌<◌, ◌≤◌, Bool, true, false, ◌&&◌, leb, List, ◌++◌, length, take, drop, sym, refl, ap, ◌∙◌, subst, append-nil, arith, length-drop, take-append-drop, length-take-le, drop-drop, le-leb}
 use native.Mathlib.Nat.{sub-zero}
 use borrow.Author.Tests.{lt-leb}
 use Rattle.laws.specs.Bools.{and_both}
 use Rattle.blocks.specs.Blocks.{whole_block, body, behind}
 use Rattle.blocks.specs.BlockLaws.{FoundBlock}
-use Rattle.records.specs.Append.{appended, reach}
+use Rattle.records.specs.Append.{appended}
 use Rattle.records.specs.Records.{refusal_size}
-use Rattle.records.specs.RecordLaws.{appended_fits, reach_fits}
+use Rattle.records.specs.RecordLaws.{reach_fits, length-appended, take-appended, drop-appended}
 use Rattle.feed.specs.Feed.{Day, FeedLeaves, record_behind, feed_leaves, day_after, ran_through, record_of}
 use Rattle.feed.specs.FeedLaws.{turn_taken, ran_stops, through_takes, behind_twice, record_fits}
 use Rattle.feed.specs.Step.{day_of, stepped}
-
--- ---- a record that fits
-
-module _ (out : List ℕ) (at : ℕ) (row : List ℕ) (l : at + length row ≤ length out) where
-  front : length (take at out ++ row) ≡ at + length row
-  front = rw (length-append, length-take-le at out (omega arith))
-
-  put : appended out at row ≡ (take at out ++ row) ++ drop (at + length row) out
-  put = appended_fits out at row l ∙ sym (append_assoc (take at out) row (drop (at + length row) out))
-
-  put-length : length (appended out at row) ≡ length out
-  put-length = rw (put, length-append, front, length-drop) (omega arith)
-
-  put-take : take (reach out at row) (appended out at row) ≡ take at out ++ row
-  put-take = rw (reach_fits out at row l, put) (take_at (take at out ++ row) (drop (at + length row) out) (at + length row) front)
-
-  put-drop : drop (reach out at row) (appended out at row) ≡ drop (at + length row) out
-  put-drop = rw (reach_fits out at row l, put) (drop_at (take at out ++ row) (drop (at + length row) out) (at + length row) front)
 
 -- ---- the loop
 
@@ -93,11 +75,12 @@ module _ (s out : List ℕ) (day : Day) (x : FeedLeaves) (g : Going s out day x)
         record {
           read = f.ends;
           fits = omega (arith, g.size);
-          size = put-length x.out w row l ∙ g.size;
+          size = length-appended x.out w row l ∙ g.size;
           rest =
-              put-drop x.out w row l ∙ sym (drop-drop (length row) w x.out) ∙ ap (drop (length row)) g.rest
+              ap (λ (n : ℕ). drop n (appended x.out w row)) m ∙ drop-appended x.out w row l
+              ∙ sym (drop-drop (length row) w x.out) ∙ ap (drop (length row)) g.rest
               ∙ drop-drop (length row) w out ∙ ap (λ (n : ℕ). drop n out) (sym m);
-          run = rw (put-take x.out w row l, m) run_more;
+          run = rw (m, take-appended x.out w row l) run_more;
         }
 
     pub goes : (y : FeedLeaves) → y ≡ stepped (take (end - from) (drop from s)) end x → Going s out day y

@@ -9,8 +9,7 @@ ghost use Rattle.feed.specs.Feed.{closes, counted, feed_leaves, more, ran_throug
 ghost use Rattle.feed.specs.Step.{stepped};
 
 use apply::Outcome;
-use blocks::Block;
-use refusals::LENGTH;
+use refusals::Refusal;
 
 // How many messages there were, and how many of them were refused.
 #[derive(Clone, Copy)]
@@ -19,7 +18,7 @@ pub struct Tally {
     pub refused: u64,
 }
 
-// How far the input was used, how many bytes of records were written, and the counts then.
+// How far the input was used, how many bytes of records were written (their buffer is lent: no Vec), and the counts then.
 #[derive(Clone, Copy)]
 pub struct Fed {
     pub at: usize,
@@ -28,14 +27,12 @@ pub struct Fed {
 }
 
 // The paper's number of an outcome: 0 where the message is accepted.
-fn number(o: Outcome) -> u8
+fn number(o: Result<Outcome, Refusal>) -> u8
     ensures { result ≡ number_of o }
 {
     match o {
-        Outcome::Refused(refusal) => refusal.number,
-        Outcome::Accepted(_) => 0,
-        Outcome::Moved(_, _) => 0,
-        Outcome::Replaced(_, _, _) => 0,
+        Ok(_) => 0,
+        Err(refusal) => u8::from(refusal),
     }
 }
 
@@ -43,23 +40,21 @@ fn number(o: Outcome) -> u8
 fn one_more(n: u64) -> u64
     ensures { result ≡ more n }
 {
-    std::num::wrapping_add_u64(n, 1)
+    n.wrapping_add(1)
 }
 
 // The counts with one message more.
 fn count(tally: Tally, number: u8) -> Tally
     ensures { result ≡ counted tally number }
 {
-    let messages = one_more(tally.messages);
-    if number == 0 {
-        return Tally {
-            messages,
-            refused: tally.refused,
-        };
-    }
+    let refused = if number == 0 {
+        tally.refused
+    } else {
+        one_more(tally.refused)
+    };
     Tally {
-        messages,
-        refused: one_more(tally.refused),
+        messages: one_more(tally.messages),
+        refused,
     }
 }
 
@@ -76,6 +71,7 @@ fn tell(tally: Tally, number: u8, written: usize, out: &mut [u8]) -> usize
 }
 
 // One message, which ends at `end`: it is applied and counted, and a refusal is told behind what is written.
+#[tactic(auto, unfolding(crate::specs::Feed::day_after, crate::specs::Feed::record_of))]
 fn message(
     bytes: &[u8],
     end: usize,
@@ -111,17 +107,14 @@ pub fn feed(
         written: 0,
         tally,
     };
-    loop {
-        let at = fed.at;
-        let written = fed.written;
-        if out.len() - written < 10 {
-            return fed;
-        }
-        let Block::Whole(from, end) = blocks::block_at(input, at) else {
-            return fed;
+    while 10 <= out.len() - fed.written {
+        let Some(block) = blocks::block_at(input, fed.at) else {
+            break;
         };
-        fed = message(&input[from..end], end, directory, book, fed, out);
+        let end = block.end;
+        fed = message(&input[block], end, directory, book, fed, out);
     }
+    fed
 }
 
 // The end of the input, where so many bytes are left that make no whole block: they are one message, refused with 1.
@@ -135,11 +128,11 @@ pub fn close(left: usize, tally: Tally, out: &mut [u8; 10]) -> Fed
             tally,
         };
     }
-    let whole: &mut [u8] = out;
-    let written = tell(tally, LENGTH, 0, whole);
+    let refused = u8::from(Refusal::Length);
+    let written = tell(tally, refused, 0, out);
     Fed {
         at: left,
         written,
-        tally: count(tally, LENGTH),
+        tally: count(tally, refused),
     }
 }

@@ -6,11 +6,11 @@ ghost use Rattle.kinds.specs.Admission.{admission};
 ghost use Rattle.kinds.specs.Sides.{good_side, side_byte, side_of};
 
 // A stock's locate code.
-#[derive(Clone, Copy)]
+#[derive(Clone, Copy, PartialEq, Eq)]
 pub struct Locate(pub u16);
 
 // An order's reference number.
-#[derive(Clone, Copy)]
+#[derive(Clone, Copy, PartialEq, Eq)]
 pub struct Reference(pub u64);
 
 // A place for an order in the book.
@@ -28,7 +28,7 @@ pub enum Side {
 }
 
 impl Side {
-    // Its byte, B or S.
+    // Its byte, B or S. (Not a `From`: no number is what a side is but by this name.)
     pub fn byte(self) -> u64
         ensures { (result ≡ side_byte self) × (result ≤ 83) }
     {
@@ -38,7 +38,7 @@ impl Side {
         }
     }
 
-    // The side of a byte that is B or S; any other is held as Sell while it is refused.
+    // The side of a byte that is B or S; any other is held as Sell while it is refused, so that no field's reader branches (a `TryFrom` would).
     pub fn of(byte: u64) -> Side
         ensures { result ≡ side_of byte }
     {
@@ -53,26 +53,27 @@ impl Side {
     }
 }
 
-// What becomes of a number that is offered as a price.
-#[derive(Drop)]
-pub enum Admission {
-    Admitted(Price),
-    TooHigh,
-}
-
 impl Price {
     // 200,000.0000, the largest Price (4).
     pub const MAX: u32 = 2_000_000_000;
+}
 
-    // The price n, or its refusal where n is above the maximum.
+// A number above the largest price is none.
+#[derive(Clone, Copy)]
+pub struct TooHigh;
+
+// The price n, unless n is above the maximum.
+impl TryFrom<u32> for Price {
+    type Error = TooHigh;
+
+    ghost try_from_gives = { λ n r. r ≡ admission n };
+
     #[tactic(auto, unfolding(crate::specs::Admission::admission, crate::specs::Admission::maximum))]
-    pub fn admit(n: u32) -> Admission
-        ensures { result ≡ admission n }
-    {
+    fn try_from(n: u32) -> Result<Price, TooHigh> {
         if n <= Price::MAX {
-            Admission::Admitted(Price(n))
+            Ok(Price(n))
         } else {
-            Admission::TooHigh
+            Err(TooHigh)
         }
     }
 }

@@ -6,27 +6,25 @@ use mathlib.Core.Bool.{Bool, true, false, cond}
 use mathlib.Core.List.{List, [], ◌++◌, append_assoc, append-nil}
 use native.Mathlib.Omega.{arith}
 use lib.Dec.{ltb}
-use lib.ListN.{length, take, drop, length-append, length-drop, take-append-drop}
-use lib.Seq.{length-take-le, take_at, drop_at, drop-drop}
+use lib.ListN.{length, take, drop, take-append-drop}
+use lib.Seq.{length-take-le, drop-drop}
 use borrow.Author.Tests.{ltb-true, ltb-false}
 use Rattle.book.specs.Book.{words_of}
 use Rattle.levels.specs.declared.Level.{Level}
 use Rattle.records.specs.Append.{appended, reach}
-use Rattle.records.specs.Records.{level_record}
-use Rattle.records.specs.RecordLaws.{length-level_record, appended_fits, reach_fits}
-use Rattle.ladders.specs.declared.Next.{Next}
-use Rattle.ladders.specs.declared.Next.TheVariants.{At, End}
+use Rattle.records.specs.RecordLaws.{length-level_record, reach_fits, length-appended, take-appended, drop-appended}
+use Rattle.std.specs.Prelude.{Option, Some, None}
 use Rattle.ladders.specs.Ladders.{level_there, kind_of, locate_at, side_at, record_at, first_rung, Shown, level_behind, shown, fill_leaves}
 use Rattle.ladders.specs.Search.{next_from, record_row}
 use Rattle.ladders.specs.LadderLaws.{shown-more, shown-end}
 
 -- ---- what a search says
 
-abbrev Says : ℕ → ℕ → Level → Next → Type 0
-Says first to l (At p x) = (first < to) × (p ≡ first) × (x ≡ l)
-Says first to l End = to ≤ first
+abbrev Says : ℕ → ℕ → Level → Option (ℕ × Level) → Type 0
+Says first to l (Some x) = (first < to) × (x.0 ≡ first) × (x.1 ≡ l)
+Says first to l None = to ≤ first
 
-next_says : (b : List ℕ) (from to : ℕ) (x : Next) → next_from b from to ≡ x
+next_says : (b : List ℕ) (from to : ℕ) (x : Option (ℕ × Level)) → next_from b from to ≡ x
     → Says (first_rung b from to) to (level_there b (words_of (length b)) (first_rung b from to)) x
 unfolding next_from
 next_says b from to x e = subst (Says p to l) e (go (ltb p to) refl)
@@ -37,51 +35,22 @@ next_says b from to x e = subst (Says p to l) e (go (ltb p to) refl)
     l : Level
     l = level_there b (words_of (length b)) (first_rung b from to)
 
-    go : (t : Bool) → ltb p to ≡ t → Says p to l (cond t (At p l) End)
+    go : (t : Bool) → ltb p to ≡ t → Says p to l (cond t (Some (p, l)) None)
     go true h = (ltb-true p to h, refl, refl)
     go false h = ltb-false p to h
 
 -- the rung that it finds lies before the end
-pub found_lt : (b : List ℕ) (from to p : ℕ) (l : Level) → next_from b from to ≡ At p l → p < to
-found_lt b from to p l e = let s = next_says b from to (At p l) e in omega arith
+pub found_lt : (b : List ℕ) (from to p : ℕ) (l : Level) → next_from b from to ≡ Some (p, l) → p < to
+found_lt b from to p l e = let s = next_says b from to (Some (p, l)) e in omega arith
 
 -- one record more, and none left
 module _ (b : List ℕ) (n from to : ℕ) where
-  one_more : (p : ℕ) (l : Level) → next_from b from to ≡ At p l → shown (suc n) b from to ≡ level_behind (record_row p l) (shown n b (p + 1) to)
+  one_more : (p : ℕ) (l : Level) → next_from b from to ≡ Some (p, l) → shown (suc n) b from to ≡ level_behind (record_row p l) (shown n b (p + 1) to)
   unfolding record_at
-  one_more p l e = let s = next_says b from to (At p l) e in shown-more n b from to s.0 ∙ rw (s.1, s.2)
+  one_more p l e = let s = next_says b from to (Some (p, l)) e in shown-more n b from to s.0 ∙ rw (s.1, s.2)
 
-  none_left : next_from b from to ≡ End → shown (suc n) b from to ≡ record { records = []; rung = to }
-  none_left e = shown-end n b from to (next_says b from to End e)
-
--- ---- a row behind the first bytes of a buffer
-
--- the row that is appended is that of the rung
-pub put-row : (out : List ℕ) (at p kind : ℕ) (l : Level) (row : List ℕ) (at' : ℕ) (out' : List ℕ)
-    → kind ≡ kind_of (side_at p) → row ≡ level_record kind (locate_at p) l.price l.shares l.orders
-    → at' ≡ reach out at row → out' ≡ appended out at row
-    → (at' ≡ reach out at (record_row p l)) × (out' ≡ appended out at (record_row p l))
-put-row out at p kind l row at' out' k e r a =
-    let same : row ≡ record_row p l = e ∙ ap (λ x. level_record x (locate_at p) l.price l.shares l.orders) k in
-    (r ∙ ap (reach out at) same, a ∙ ap (appended out at) same)
-
-module _ (out : List ℕ) (at : ℕ) (row : List ℕ) (fits : at + length row ≤ length out) where
-  head : length (take at out ++ row) ≡ at + length row
-  head = omega (arith, length-append (take at out) row, length-take-le at out (omega arith))
-
-  split : appended out at row ≡ (take at out ++ row) ++ drop (at + length row) out
-  split = appended_fits out at row fits ∙ sym (append_assoc (take at out) row (drop (at + length row) out))
-
-  front : take (at + length row) (appended out at row) ≡ take at out ++ row
-  front = rw split (take_at (take at out ++ row) (drop (at + length row) out) (at + length row) head)
-
-  back : drop (at + length row) (appended out at row) ≡ drop (at + length row) out
-  back = rw split (drop_at (take at out ++ row) (drop (at + length row) out) (at + length row) head)
-
-  same_size : length (appended out at row) ≡ length out
-  same_size =
-      ap length split
-      ∙ omega (arith, head, length-append (take at out ++ row) (drop (at + length row) out), length-drop (at + length row) out)
+  none_left : next_from b from to ≡ None → shown (suc n) b from to ≡ record { records = []; rung = to }
+  none_left e = shown-end n b from to (next_says b from to None e)
 
 -- ---- the buffer
 
@@ -104,7 +73,7 @@ start b first from to = record {
 
 module _ (b first : List ℕ) (from to : ℕ) (out : List ℕ) (rung at : ℕ) (f : Filling b first from to out rung at) where
   -- one row more
-  module _ (room : 19 ≤ length out - at) (p : ℕ) (l : Level) (e : next_from b rung to ≡ At p l) where
+  module _ (room : 19 ≤ length out - at) (p : ℕ) (l : Level) (e : next_from b rung to ≡ Some (p, l)) where
     size : length (record_row p l) ≡ 19
     size = length-level_record (kind_of (side_at p)) (locate_at p) l.price l.shares l.orders
 
@@ -113,7 +82,7 @@ module _ (b first : List ℕ) (from to : ℕ) (out : List ℕ) (rung at : ℕ) (
 
     module _ (out' : List ℕ) (at' : ℕ) (r : at' ≡ reach out at (record_row p l)) (a : out' ≡ appended out at (record_row p l)) where
       pub less : length out' - at' < length out - at
-      less = omega (arith, f.size, size, r, reach_fits out at (record_row p l) fits, ap length a, same_size out at (record_row p l) fits)
+      less = omega (arith, f.size, size, r, reach_fits out at (record_row p l) fits, ap length a, length-appended out at (record_row p l) fits)
 
       pub more : Filling b first from to out' (p + 1) at'
       more =
@@ -121,14 +90,14 @@ module _ (b first : List ℕ) (from to : ℕ) (out : List ℕ) (rung at : ℕ) (
           let m = (length first - (at + length row)) / 19 in
           let turns : (length first - at) / 19 ≡ suc m = omega (arith, f.size, size) in
           rw (r ∙ reach_fits out at row fits, a) record {
-            size = same_size out at row fits ∙ f.size;
+            size = length-appended out at row fits ∙ f.size;
             within = omega (arith, f.size, fits);
-            rest = back out at row fits ∙ sym (drop-drop (length row) at out) ∙ ap (drop (length row)) f.rest ∙ drop-drop (length row) at first;
+            rest = drop-appended out at row fits ∙ sym (drop-drop (length row) at out) ∙ ap (drop (length row)) f.rest ∙ drop-drop (length row) at first;
             done = f.done
                 ∙ ap (λ i. level_behind (take at out) (shown i b rung to)) turns
                 ∙ ap (level_behind (take at out)) (one_more b m rung to p l e)
                 ∙ behind_twice (take at out) row (shown m b (p + 1) to)
-                ∙ ap (λ x. level_behind x (shown m b (p + 1) to)) (sym (front out at row fits));
+                ∙ ap (λ x. level_behind x (shown m b (p + 1) to)) (sym (take-appended out at row fits));
           }
 
   -- nothing more to show: what stands there is what the call leaves
@@ -145,7 +114,7 @@ module _ (b first : List ℕ) (from to : ℕ) (out : List ℕ) (rung at : ℕ) (
   unfolding shown
   full h = let none : (length first - at) / 19 ≡ 0 = omega (arith, f.size) in leave rung (ap (λ n. shown n b rung to) none)
 
-  pub end : 19 ≤ length out - at → next_from b rung to ≡ End
+  pub end : 19 ≤ length out - at → next_from b rung to ≡ None
       → record { filled = record { rung = to; written = at }; out = out } ≡ fill_leaves first (shown (length first / 19) b from to)
   end room e =
       let m = (length first - (at + 19)) / 19 in

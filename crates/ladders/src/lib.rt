@@ -3,14 +3,14 @@
 #![tactic(auto)]
 
 ghost use Rattle.std.specs.Prelude.{◌≡◌, ◌/◌, ◌<◌, length};
-ghost use Rattle.kinds.specs.Sides.{side_byte};
 ghost use Rattle.levels.specs.Ticks.{ticks_to};
 ghost use Rattle.records.specs.Append.{appended, reach};
-ghost use Rattle.ladders.specs.Ladders.{first_of, kind_of, fill_leaves, shown, side_at};
+ghost use Rattle.ladders.specs.Ladders.{first_of, fill_leaves, kind_of, locate_at, shown, side_at};
 ghost use Rattle.ladders.specs.Search.{next_from, on_side, quote_at, record_row};
 
-use kinds::Locate;
-use levels::{Level, Quote};
+use kinds::{Locate, Side};
+use levels::Level;
+use refusals::Refusal;
 
 // The rung to go on from, and how many bytes of records were written.
 #[derive(Drop)]
@@ -19,74 +19,82 @@ pub struct Filled {
     pub written: usize,
 }
 
-// The next level with its rung, or that there is none.
-#[derive(Drop)]
-enum Next {
-    At(u64, Level),
-    End,
-}
+// The rungs of a side, one for each price, and those of a stock: its buys' and then its sells'. (A rung is one number, as the caller keeps it.)
+const SIDE_RUNGS: u64 = 4_294_967_296;
+
+const STOCK_RUNGS: u64 = 2 * SIDE_RUNGS;
 
 // The first of a locate's rungs.
 pub fn first_of(locate: u16) -> u64
     ensures { result ≡ first_of locate }
 {
-    (locate as u64) * 8589934592
+    u64::from(locate) * STOCK_RUNGS
 }
 
-// The letter of a rung's side.
-fn letter_at(p: u64) -> u8
-    ensures { result ≡ side_byte (side_at p) }
+fn locate_at(p: u64) -> u16
+    requires { p < 562949953421312 }
+    ensures { result ≡ locate_at p }
 {
-    if p / 4294967296 % 2 == 0 { 66 } else { 83 }
+    (p / STOCK_RUNGS) as u16
 }
 
-// The kind of its record.
-fn kind_at(p: u64) -> u8
-    ensures { result ≡ kind_of (side_at p) }
+fn side_at(p: u64) -> Side
+    ensures { result ≡ side_at p }
 {
-    if p / 4294967296 % 2 == 0 { 98 } else { 115 }
+    if p / SIDE_RUNGS % 2 == 0 {
+        Side::Buy
+    } else {
+        Side::Sell
+    }
+}
+
+// The kind of a side's records.
+fn kind_of(side: Side) -> u8
+    ensures { result ≡ kind_of side }
+{
+    match side {
+        Side::Buy => b'b',
+        Side::Sell => b's',
+    }
 }
 
 // The rung of a price on the side whose rung p is.
 fn rung_at(p: u64, price: u32) -> u64
     ensures { result ≡ on_side p (ticks_to (side_at p) price) }
 {
-    let base = p / 4294967296 * 4294967296;
-    if p / 4294967296 % 2 == 0 {
-        return base + (4294967295 - (price as u64));
-    }
-    base + (price as u64)
+    let ticks = match side_at(p) {
+        Side::Buy => u32::MAX - price,
+        Side::Sell => price,
+    };
+    p / SIDE_RUNGS * SIDE_RUNGS + u64::from(ticks)
 }
 
 // The best level of a rung's side, not before the rung.
-fn quote_at(book: &[u64], p: u64) -> Quote
+fn quote_at(book: &[u64], p: u64) -> Result<Option<Level>, Refusal>
     requires { p < 562949953421312 }
     ensures { result ≡ quote_at book.now p }
 {
-    let locate = Locate((p / 8589934592) as u16);
-    levels::questions::first_from(book, locate, letter_at(p), p % 4294967296)
+    let letter = side_at(p).byte() as u8;
+    levels::questions::first_from(book, Locate(locate_at(p)), letter, p % SIDE_RUNGS)
 }
 
-// The next level from a rung on, side by side.
-fn next_from(book: &[u64], from: u64, locates: u16) -> Next
+// The next level from a rung on, with its own rung, below those of the locate `locates`; none where the book is refused. It goes side by
+// side, and not by a range of sides: the first may be entered at any of its rungs.
+fn next_from(book: &[u64], from: u64, locates: u16) -> Option<(u64, Level)>
     ensures { result ≡ next_from book.now from (first_of locates) }
 {
-    let to = (locates as u64) * 8589934592;
+    let to = first_of(locates);
     let mut rung = from;
     while rung < to {
-        let quote = quote_at(book, rung);
-        match quote {
-            Quote::Refused(_) => {
-                return Next::End;
-            }
-            Quote::Nothing => {}
-            Quote::Stands(level) => {
-                return Next::At(rung_at(rung, level.price), level);
-            }
+        let Ok(quote) = quote_at(book, rung) else {
+            return None;
+        };
+        if let Some(level) = quote {
+            return Some((rung_at(rung, level.price), level));
         }
-        rung = (rung / 4294967296 + 1) * 4294967296;
+        rung = (rung / SIDE_RUNGS + 1) * SIDE_RUNGS;
     }
-    Next::End
+    None
 }
 
 // The record of a level behind the first `at` bytes of out, and where it ends.
@@ -94,11 +102,12 @@ fn put(p: u64, level: Level, out: &mut [u8], at: usize) -> usize
     requires { p < 562949953421312 }
     ensures { (result ≡ reach out.old at (record_row p level)) × (out.new ≡ appended out.old at (record_row p level)) }
 {
+    let kind = kind_of(side_at(p));
     let mut row = [0u8; 19];
     records::level(
         &mut row,
-        kind_at(p),
-        (p / 8589934592) as u16,
+        kind,
+        locate_at(p),
         level.price,
         level.shares,
         level.orders,
@@ -106,17 +115,16 @@ fn put(p: u64, level: Level, out: &mut [u8], at: usize) -> usize
     records::append(out, at, &row)
 }
 
-// As many levels as out has room for, from the rung `from` on and below those of the locate `locates`.
+// As many levels as out has room for, from the rung `from` on and below those of the locate `locates`: while there is room, and by no index.
 pub fn fill(book: &[u64], from: u64, locates: u16, out: &mut [u8]) -> Filled
     ensures { record { filled = result; out = out.new } ≡ fill_leaves out.old (shown (length out.old / 19) book.now from (first_of locates)) }
 {
     let mut rung = from;
-    let mut written: usize = 0;
+    let mut written = 0;
     while 19 <= out.len() - written {
-        let next = next_from(book, rung, locates);
-        let Next::At(found, level) = next else {
+        let Some((found, level)) = next_from(book, rung, locates) else {
             return Filled {
-                rung: (locates as u64) * 8589934592,
+                rung: first_of(locates),
                 written,
             };
         };

@@ -12,7 +12,6 @@ ghost use Rattle.reader.specs.Read.{answer};
 ghost use Rattle.symbol.specs.Symbol.{symbol_part};
 ghost use Rattle.replies.specs.Replies.{account_number, account_row, count_number, count_row, level_row, quote_number, quote_row};
 
-use fresh::Made;
 use kinds::{Locate, Reference};
 
 // Reads one message: the result is 01's number, and the 18 numbers of its fields are left in out, all 0 for a refusal.
@@ -26,10 +25,9 @@ pub fn ladlemoss_read(bytes: &[u8], out: &mut [u64; 18]) -> u8
 pub fn ladlemoss_fresh(directory: &mut [u64], book: &mut [u64]) -> u8
     ensures { Freshens directory.old book.old result directory.new book.new }
 {
-    let made = fresh::make_fresh(directory, book);
-    match made {
-        Made::Fresh => 0,
-        Made::Refused(refusal) => refusal.number,
+    match fresh::make_fresh(directory, book) {
+        Ok(()) => 0,
+        Err(refusal) => u8::from(refusal),
     }
 }
 

@@ -1,4 +1,5 @@
-// The calls that a program in C or Rust links, under the names of the header: those of `ladlemoss`, with its contracts.
+// The calls that a program in C or Rust links, under the names of the header: those of `ladlemoss`, with its contracts. (Twice nine calls:
+// exported names stand in a static library of their own.)
 #![tactic(auto)]
 
 ghost use Rattle.std.specs.Prelude.{◌≡◌};

@@ -1,6 +1,6 @@
 -- Why one compare tells what a slot is to a pass. The packed numbers of two stocks or sides are 2^40 apart and ticks stay below
 -- 2^32, so no number in the room is of another stock or side. Assumes nothing.
-use Rattle.std.specs.Prelude.{◌≡◌, ℕ, ◌+◌, ◌-◌, ◌*◌, ◌/◌, ◌%◌, ◌<◌, ◌≤◌, min, Bool, true, false, ◌&&◌, leb, nat_eq, nat_le, nat_lt, refl}
+use Rattle.std.specs.Prelude.{◌≡◌, ℕ, ◌+◌, ◌-◌, ◌*◌, ◌/◌, ◌%◌, ◌<◌, ◌≤◌, min, Bool, true, false, ◌&&◌, leb, nat_eq, nat_le, nat_lt, refl, Some}
 use Rattle.std.proofs.Math.Path.{sym}
 use Rattle.std.proofs.Common.{ap, ◌∙◌}
 use native.Mathlib.Omega.{arith}
@@ -11,7 +11,6 @@ use Rattle.kinds.specs.declared.Side.TheVariants.{Buy, Sell}
 use Rattle.kinds.specs.Sides.{side_byte}
 use Rattle.kinds.specs.SideLaws.{byte_le}
 use Rattle.orders.specs.declared.Order.{Order}
-use Rattle.orders.specs.declared.Held.TheVariants.{Sound}
 use Rattle.orders.specs.Order.{remaining, order_of, fourth, held}
 use Rattle.orders.specs.OrderLaws.{held_fit, held-numbers}
 use Rattle.orders.specs.Soundness.{Passes, passes-held, fails_held}
@@ -136,7 +135,7 @@ module _ (w : Wanted) (most n1 n2 n3 : ℕ) (n0 : ℕ) where
   fails_glance f = sym (ap (glanced w most) (fails_held n0 n1 n2 n3 f))
 
   module _ {base past ticks : ℕ} (g : Weighed w n1 n2 n3 base past ticks) where
-    holds : held n0 n1 n2 n3 ≡ Sound (order_of n0 n1 n2 n3)
+    holds : held n0 n1 n2 n3 ≡ Some (order_of n0 n1 n2 n3)
     holds = passes-held n0 n1 n2 n3 g.passes
 
     packed : Packed w (order_of n0 n1 n2 n3) base past

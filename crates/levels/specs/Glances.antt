@@ -1,11 +1,9 @@
 -- What one live slot is to a pass that has seen orders down to the tick `most`: unsound, nothing, or an order that is wanted and
 -- no worse. With it the two numbers by which one compare of packed numbers tells that. Assumes nothing.
-use Rattle.std.specs.Prelude.{◌≡◌, ℕ, ◌+◌, ◌-◌, ◌*◌, ◌/◌, ◌%◌, ◌<◌, min, Bool, cond, ◌&&◌, ◌==◌, nat_le}
+use Rattle.std.specs.Prelude.{◌≡◌, ℕ, ◌+◌, ◌-◌, ◌*◌, ◌/◌, ◌%◌, ◌<◌, min, Bool, cond, ◌&&◌, ◌==◌, nat_le, Option, Some, None}
 use Rattle.kinds.specs.Sides.{side_byte, good_side}
 use Rattle.text.specs.Text.{text}
 use Rattle.orders.specs.declared.Order.{Order}
-use Rattle.orders.specs.declared.Held.{Held}
-use Rattle.orders.specs.declared.Held.TheVariants.{Sound, Unsound}
 use Rattle.orders.specs.Order.{remaining}
 use Rattle.levels.specs.declared.Wanted.{Wanted}
 use Rattle.levels.specs.declared.Glimpse.{Glimpse}
@@ -17,9 +15,9 @@ use Rattle.levels.specs.Visits.{is_wanted}
 abbrev pub matters : Wanted → ℕ → Order → Bool
 matters w most o = is_wanted w o && nat_le (ticks_to w.side o.price.0) most
 
-unfoldable pub glanced : Wanted → ℕ → Held → Glimpse
-glanced w most (Sound o) = cond (matters w most o) (glimpse.Stands (ticks_to w.side o.price.0) (remaining o)) glimpse.Other
-glanced w most Unsound = glimpse.Unsound
+unfoldable pub glanced : Wanted → ℕ → Option Order → Glimpse
+glanced w most (Some o) = cond (matters w most o) (glimpse.Stands (ticks_to w.side o.price.0) (remaining o)) glimpse.Other
+glanced w most None = glimpse.Unsound
 
 -- of what `sound` asks, the part that is in letters: the side, the attribution and the low byte
 unfoldable pub lettered : ℕ → Bool

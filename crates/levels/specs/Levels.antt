@@ -1,20 +1,17 @@
 -- THE DEFINITION of the questions about levels (01, 'What the desk may ask'), over the orders and not over their slots: a level's
 -- shares and orders are totals, and the best price is the highest buy and the lowest sell. Assumes nothing.
-use Rattle.std.specs.Prelude.{ℕ, zero, suc, Bool, true, false, cond, ◌&&◌, List, length, ◌==◌, nat_lt}
+use Rattle.refusals.specs.declared.Refusal.TheVariants.{Book, Field, Shape}
+use Rattle.std.specs.Prelude.{ℕ, zero, suc, Bool, true, false, cond, ◌&&◌, List, length, ◌==◌, nat_lt, Option, Result, Some, None, Ok, Err}
 use Rattle.laws.specs.Definitions.{least}
-use Rattle.refusals.specs.Refusals.{BOOK, FIELD, SHAPE, refusal_of}
 use Rattle.kinds.specs.declared.Side.{Side}
 use Rattle.kinds.specs.declared.Side.TheVariants.{Buy, Sell}
 use Rattle.kinds.specs.Sides.{side_of, good_side}
 use Rattle.book.specs.Book.{words_of}
 use Rattle.orders.specs.declared.Order.{Order}
-use Rattle.orders.specs.declared.Held.{Held}
-use Rattle.orders.specs.declared.Held.TheVariants.{Sound, Unsound}
 use Rattle.orders.specs.Order.{remaining}
 use Rattle.levels.specs.declared.Level.{Level}
-use Rattle.levels.specs.declared.Quote.{Quote}
-use Rattle.levels.specs.declared.Quote.TheVariants.{Refused, Nothing, Stands}
 use Rattle.levels.specs.Totals.{total}
+use Rattle.refusals.specs.declared.Refusal.{Refusal}
 
 -- ---- weights
 
@@ -29,18 +26,18 @@ abbrev pub stands_at : ℕ → Side → ℕ → Order → Bool
 stands_at locate side price o = o.locate.0 == locate && (same_side o.side side && o.price.0 == price)
 
 -- what remains of the orders at a level
-abbrev pub shares_at : ℕ → Side → ℕ → Held → ℕ
-shares_at locate side price (Sound o) = cond (stands_at locate side price o) (remaining o) 0
-shares_at locate side price Unsound = 0
+abbrev pub shares_at : ℕ → Side → ℕ → Option Order → ℕ
+shares_at locate side price (Some o) = cond (stands_at locate side price o) (remaining o) 0
+shares_at locate side price None = 0
 
 -- the orders at a level
-abbrev pub orders_at : ℕ → Side → ℕ → Held → ℕ
-orders_at locate side price (Sound o) = cond (stands_at locate side price o) 1 0
-orders_at locate side price Unsound = 0
+abbrev pub orders_at : ℕ → Side → ℕ → Option Order → ℕ
+orders_at locate side price (Some o) = cond (stands_at locate side price o) 1 0
+orders_at locate side price None = 0
 
-abbrev pub unsoundness : Held → ℕ
-unsoundness (Sound o) = 0
-unsoundness Unsound = 1
+abbrev pub unsoundness : Option Order → ℕ
+unsoundness (Some o) = 0
+unsoundness None = 1
 
 -- ---- a level, and the best that stands
 
@@ -57,20 +54,20 @@ unfoldable pub some_at : List ℕ → ℕ → ℕ → Side → ℕ → Bool
 some_at b k locate side price = nat_lt 0 (total (orders_at locate side price) b k)
 
 -- the level of the highest price below n that passes, or none
-unfoldable pub highest : (ℕ → Bool) → (ℕ → Level) → ℕ → Quote
-highest passes level zero = Nothing
-highest passes level (suc n) = cond (passes n) (Stands (level n)) (highest passes level n)
+unfoldable pub highest : (ℕ → Bool) → (ℕ → Level) → ℕ → Result (Option Level) Refusal
+highest passes level zero = (Ok None)
+highest passes level (suc n) = cond (passes n) (Ok (Some (level n))) (highest passes level n)
 
 -- the level of the lowest price below n that passes, or none
-unfoldable pub lowest : (ℕ → Bool) → (ℕ → Level) → ℕ → Quote
-lowest passes level n = cond (nat_lt (least passes n) n) (Stands (level (least passes n))) Nothing
+unfoldable pub lowest : (ℕ → Bool) → (ℕ → Level) → ℕ → Result (Option Level) Refusal
+lowest passes level n = cond (nat_lt (least passes n) n) (Ok (Some (level (least passes n)))) (Ok None)
 
 -- all prices that 32 bits hold
 abbrev pub all_prices : ℕ
 all_prices = 4294967296
 
 -- of the prices that pass, the best level of a stock's side, or none: the highest buy, the lowest sell
-unfoldable pub best_where : List ℕ → ℕ → ℕ → Side → (ℕ → Bool) → Quote
+unfoldable pub best_where : List ℕ → ℕ → ℕ → Side → (ℕ → Bool) → Result (Option Level) Refusal
 best_where b k locate Buy passes = highest (λ p. passes p && some_at b k locate Buy p) (level_at b k locate Buy) all_prices
 best_where b k locate Sell passes = lowest (λ p. passes p && some_at b k locate Sell p) (level_at b k locate Sell) all_prices
 
@@ -81,23 +78,23 @@ better Sell p q = nat_lt p q
 
 -- ---- the questions
 
-abbrev pub no_quote : ℕ → Quote
-no_quote n = Refused (refusal_of n)
+abbrev pub no_quote : Refusal → Result (Option Level) Refusal
+no_quote r = Err r
 
 -- 14, then 4 for a side that is neither B nor S, then 13 if any live slot of the book is unsound; else the answer
-abbrev pub checked : List ℕ → ℕ → Quote → Quote
+abbrev pub checked : List ℕ → ℕ → Result (Option Level) Refusal → Result (Option Level) Refusal
 checked b byte quote =
-    cond (words_of (length b) == 0) (no_quote SHAPE)
-    (cond (good_side byte) (cond (total unsoundness b (words_of (length b)) == 0) quote (no_quote BOOK)) (no_quote FIELD))
+    cond (words_of (length b) == 0) (no_quote Shape)
+    (cond (good_side byte) (cond (total unsoundness b (words_of (length b)) == 0) quote (no_quote Book)) (no_quote Field))
 
 -- total and count of a level; none there is 0 and 0, an answer
-unfoldable pub level_of : List ℕ → ℕ → ℕ → ℕ → Quote
-level_of b locate byte price = checked b byte (Stands (level_at b (words_of (length b)) locate (side_of byte) price))
+unfoldable pub level_of : List ℕ → ℕ → ℕ → ℕ → Result (Option Level) Refusal
+level_of b locate byte price = checked b byte (Ok (Some (level_at b (words_of (length b)) locate (side_of byte) price)))
 
 -- the best level of a stock's side
-unfoldable pub best_of : List ℕ → ℕ → ℕ → Quote
+unfoldable pub best_of : List ℕ → ℕ → ℕ → Result (Option Level) Refusal
 best_of b locate byte = checked b byte (best_where b (words_of (length b)) locate (side_of byte) (λ p. true))
 
 -- the next level worse than a price, which need not be a level itself
-unfoldable pub next_of : List ℕ → ℕ → ℕ → ℕ → Quote
+unfoldable pub next_of : List ℕ → ℕ → ℕ → ℕ → Result (Option Level) Refusal
 next_of b locate byte price = checked b byte (best_where b (words_of (length b)) locate (side_of byte) (better (side_of byte) price))

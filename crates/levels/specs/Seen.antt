@@ -1,19 +1,15 @@
 -- What a whole pass saw is what the definitions say: the first tick at which an order stands, with the totals there, or that some
 -- live slot is unsound. Assumes nothing.
-use Rattle.std.specs.Prelude.{◌≡◌, ℕ, ◌+◌, ◌*◌, ◌<◌, ◌≤◌, Bool, true, false, cond, ◌&&◌, List, ◌==◌, ◌≢◌, nat_lt, refl}
+use Rattle.std.specs.Prelude.{◌≡◌, ℕ, ◌+◌, ◌*◌, ◌<◌, ◌≤◌, Bool, true, false, cond, ◌&&◌, List, ◌==◌, ◌≢◌, nat_lt, refl, Option, Some, None}
 use Rattle.std.proofs.Common.{sym, ap, ◌∙◌, ⊎_elim, arith, eq-eqb, ne_eqb, eqb-true, le-leb, lt-ltb, ltb-true, ltb-false}
 use Rattle.laws.specs.Bools.{and-false}
 use Rattle.laws.specs.Least.{same_or}
 use Rattle.kinds.specs.declared.Side.{Side}
 use Rattle.orders.specs.declared.Order.{Order}
-use Rattle.orders.specs.declared.Held.{Held}
-use Rattle.orders.specs.declared.Held.TheVariants.{Sound, Unsound}
 use Rattle.orders.specs.Order.{remaining}
 use Rattle.slots.specs.Stored.{held_at}
 use Rattle.levels.specs.declared.Wanted.{Wanted}
 use Rattle.levels.specs.declared.Best.{Best}
-use Rattle.levels.specs.declared.Pass.{Pass}
-use Rattle.levels.specs.declared.Pass.TheVariants as pass
 use Rattle.levels.specs.Totals.{total}
 use Rattle.levels.specs.TotalLaws.{Whole, Kept, held_kept, total_ext, total_none, none_total}
 use Rattle.levels.specs.Levels.{same_side, stands_at, shares_at, orders_at, unsoundness, all_prices}
@@ -71,14 +67,14 @@ module _ (w : Wanted) (most : w.to ≤ all_prices) (i : ℕ) (late : w.from ≤ 
       go false e = simp and-false
 
   -- the totals of what is wanted at a tick are those of its level
-  level_total : (f : Order → ℕ) (g : Held → ℕ) (b : List ℕ) (k : ℕ)
-      → ((o : Order) → cond (stands_at w.locate.0 w.side (price_at w.side i) o) (f o) 0 ≡ g (Sound o)) → 0 ≡ g Unsound
+  level_total : (f : Order → ℕ) (g : Option Order → ℕ) (b : List ℕ) (k : ℕ)
+      → ((o : Order) → cond (stands_at w.locate.0 w.side (price_at w.side i) o) (f o) 0 ≡ g (Some o)) → 0 ≡ g None
       → total (of_wanted w f i) b k ≡ total g b k
   level_total f g b k sound unsound = total_ext (of_wanted w f i) g b k λ s l a. go (held_at b k s) (held_kept b k s)
     where
-      go : (h : Held) → Kept h → of_wanted w f i h ≡ g h
-      go (Sound o) h = ap (λ (c : Bool). cond c (f o) 0) (wanted_stands o h) ∙ sound o
-      go Unsound h = unsound
+      go : (h : Option Order) → Kept h → of_wanted w f i h ≡ g h
+      go (Some o) h = ap (λ (c : Bool). cond c (f o) 0) (wanted_stands o h) ∙ sound o
+      go None h = unsound
 
   shares_on_lem : (b : List ℕ) (k : ℕ) → total (of_wanted w remaining i) b k ≡ shares_on w b k i
   shares_on_lem b k = level_total remaining (shares_at w.locate.0 w.side (price_at w.side i)) b k (λ o. refl) refl
@@ -94,9 +90,9 @@ none_at_end w f b k = none_total (of_wanted w f w.to) b k λ s l a. go (held_at 
     apart o true e = ne_eqb (away w o) w.to (λ d. omega (arith, (wanted_inside w o e).1))
     apart o false e = refl
 
-    go : (h : Held) → of_wanted w f w.to h ≡ 0
-    go (Sound o) = ap (λ (c : Bool). cond c (f o) 0) (apart o (is_wanted w o) refl)
-    go Unsound = refl
+    go : (h : Option Order) → of_wanted w f w.to h ≡ 0
+    go (Some o) = ap (λ (c : Bool). cond c (f o) 0) (apart o (is_wanted w o) refl)
+    go None = refl
 
 -- ---- the best of a whole pass
 
@@ -132,20 +128,20 @@ whole_pass : (w : Wanted) (b : List ℕ) (k : ℕ) → Sees w (λ f. total f b k
 unfolding total
 whole_pass w b k = sees w b k (64 * k)
 
-pub pass_unsound : (w : Wanted) (b : List ℕ) (k : ℕ) → (total unsoundness b k ≢ 0) → visited w b k (64 * k) ≡ pass.Unsound
+pub pass_unsound : (w : Wanted) (b : List ℕ) (k : ℕ) → (total unsoundness b k ≢ 0) → visited w b k (64 * k) ≡ None
 pass_unsound w b k n = go (whole_pass w b k)
   where
-    go : {p : Pass} → Sees w (λ f. total f b k) p → p ≡ pass.Unsound
+    go : {p : Option Best} → Sees w (λ f. total f b k) p → p ≡ None
     go (saw_unsound h) = refl
     go (saw_sound x z l) = absurd (n z)
 
 pub pass_seen : (w : Wanted) (b : List ℕ) (k : ℕ) → w.to ≤ all_prices → total unsoundness b k ≡ 0
-    → visited w b k (64 * k) ≡ pass.Seen (best_in w b k)
+    → visited w b k (64 * k) ≡ Some (best_in w b k)
 pass_seen w b k most z = go (whole_pass w b k)
   where
-    go : {p : Pass} → Sees w (λ f. total f b k) p → p ≡ pass.Seen (best_in w b k)
+    go : {p : Option Best} → Sees w (λ f. total f b k) p → p ≡ Some (best_in w b k)
     go (saw_unsound h) = absurd (omega arith)
-    go (saw_sound x z l) = ap pass.Seen (best_is w b k x most l)
+    go (saw_sound x z l) = ap Some (best_is w b k x most l)
 
 -- ---- one tick alone
 
@@ -160,9 +156,9 @@ module _ (b : List ℕ) (k l : ℕ) (side : Side) (p : ℕ) where
   no_orders e =
       none_total (shares_at l side p) b k λ s m a. go (held_at b k s) (total_none (orders_at l side p) b k e s m a)
     where
-      go : (h : Held) → orders_at l side p h ≡ 0 → shares_at l side p h ≡ 0
-      go (Sound o) e = unless (stands_at l side p o) 1 (remaining o) (omega arith) e
-      go Unsound e = refl
+      go : (h : Option Order) → orders_at l side p h ≡ 0 → shares_at l side p h ≡ 0
+      go (Some o) e = unless (stands_at l side p o) 1 (remaining o) (omega arith) e
+      go None e = refl
 
 -- whether an order stands there or none
 pub one_tick : (w : Wanted) (b : List ℕ) (k p : ℕ) → p < all_prices → w.from ≡ ticks_to w.side p → w.to ≡ w.from + 1

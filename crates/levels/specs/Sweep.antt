@@ -1,6 +1,6 @@
 -- The pass over the slots of one map number by its one bits, lowest first: m is the map number with the bits taken off of the slots
 -- that were looked at. Free slots between one bits change nothing of what was seen. Assumes nothing.
-use Rattle.std.specs.Prelude.{◌≡◌, ℕ, suc, ◌+◌, ◌-◌, ◌*◌, ◌^◌, ◌<◌, ◌≤◌, ◌≢◌, List, bit_and, slice_index, refl}
+use Rattle.std.specs.Prelude.{◌≡◌, ℕ, suc, ◌+◌, ◌-◌, ◌*◌, ◌^◌, ◌<◌, ◌≤◌, ◌≢◌, List, bit_and, slice_index, refl, Some, None}
 use Rattle.std.proofs.Common.{sym, ap, ◌∙◌, ⊎_elim, add-zero, add-suc, lt_of_le_of_lt, arith, pow_pos}
 use Rattle.std.specs.Int.Count.{count_trailing_zeros}
 use Rattle.laws.specs.Bit.{bit_of_zero, trailing_zero, trailing_one, trailing_lt, and_pred, clear_same, clear_other, pow-le}
@@ -8,11 +8,9 @@ use Rattle.laws.specs.Least.{same_or, lt-or-le}
 use Rattle.laws.specs.Definitions.{bit}
 use Rattle.book.specs.Book.{live}
 use Rattle.book.specs.Words.{live_word}
-use Rattle.orders.specs.declared.Held.TheVariants.{Unsound}
 use Rattle.slots.specs.Stored.{held_at}
 use Rattle.levels.specs.declared.Wanted.{Wanted}
 use Rattle.levels.specs.declared.Best.{Best}
-use Rattle.levels.specs.declared.Pass.TheVariants as pass
 use Rattle.levels.specs.Visits.{seen, visited}
 use Rattle.levels.specs.VisitLaws.{free_slots, live_slot, unsound_stays, Small, small}
 
@@ -21,7 +19,7 @@ pub record Sweep (w : Wanted) (b : List ℕ) (k j : ℕ) (best : Best) (m : ℕ)
   pub past : ℕ
   pub most : past ≤ 64
   pub fits : m < 2 ^ 64
-  pub done : visited w b k (64 * j + past) ≡ pass.Seen best
+  pub done : visited w b k (64 * j + past) ≡ Some best
   pub gone : (i : ℕ) → i < past → bit m i ≡ 0
   pub left : (i : ℕ) → past ≤ i → bit m i ≡ bit (slice_index b j) i
 
@@ -30,7 +28,7 @@ zero_one q = omega arith
 
 module _ (w : Wanted) (b : List ℕ) (k j : ℕ) where
   -- nothing looked at yet
-  pub sweep_start : (best : Best) → slice_index b j < 2 ^ 64 → visited w b k (64 * j) ≡ pass.Seen best → Sweep w b k j best (slice_index b j)
+  pub sweep_start : (best : Best) → slice_index b j < 2 ^ 64 → visited w b k (64 * j) ≡ Some best → Sweep w b k j best (slice_index b j)
   sweep_start best l e = record {
     past = 0;
     most = omega arith;
@@ -42,7 +40,7 @@ module _ (w : Wanted) (b : List ℕ) (k j : ℕ) where
 
   module _ (best : Best) (m : ℕ) (s : Sweep w b k j best m) where
     -- slots whose bits in m are 0 change nothing
-    skipped : (t : ℕ) → s.past ≤ t → t ≤ 64 → ((i : ℕ) → i < t → bit m i ≡ 0) → visited w b k (64 * j + t) ≡ pass.Seen best
+    skipped : (t : ℕ) → s.past ≤ t → t ≤ 64 → ((i : ℕ) → i < t → bit m i ≡ 0) → visited w b k (64 * j + t) ≡ Some best
     skipped t l h none =
         let p = s.past in
         let e : 64 * j + p + (t - p) ≡ 64 * j + t = omega arith in
@@ -55,7 +53,7 @@ module _ (w : Wanted) (b : List ℕ) (k j : ℕ) where
             ∙ none (s.past + i) (omega arith)
 
     -- no one bit is left
-    pub sweep_done : m ≡ 0 → pass.Seen best ≡ visited w b k (64 * (j + 1))
+    pub sweep_done : m ≡ 0 → Some best ≡ visited w b k (64 * (j + 1))
     sweep_done z =
         let e : 64 * j + 64 ≡ 64 * (j + 1) = omega arith in
         sym (skipped 64 s.most (omega arith) (λ i l. ap (λ (x : ℕ). bit x i) z ∙ bit_of_zero i)) ∙ ap (visited w b k) e
@@ -72,10 +70,10 @@ module _ (w : Wanted) (b : List ℕ) (k j : ℕ) where
           ⊎_elim (λ l. absurd (zero_one (sym (s.gone (count_trailing_zeros 64 m) l) ∙ next_bit))) (λ l. l) (lt-or-le (count_trailing_zeros 64 m) s.past)
 
       -- up to the next one bit, and with its slot
-      reached : visited w b k (64 * j + count_trailing_zeros 64 m) ≡ pass.Seen best
+      reached : visited w b k (64 * j + count_trailing_zeros 64 m) ≡ Some best
       reached = skipped (count_trailing_zeros 64 m) next_past (omega (arith, next_lt)) (λ i l. trailing_zero 64 m i l)
 
-      next_seen : visited w b k (64 * j + suc (count_trailing_zeros 64 m)) ≡ seen w (pass.Seen best) (held_at b k (64 * j + count_trailing_zeros 64 m))
+      next_seen : visited w b k (64 * j + suc (count_trailing_zeros 64 m)) ≡ seen w (Some best) (held_at b k (64 * j + count_trailing_zeros 64 m))
       next_seen =
           let t = count_trailing_zeros 64 m in
           let l : live b (64 * j + t) ≡ 1 = live_word b j t next_lt ∙ sym (s.left t next_past) ∙ next_bit in
@@ -89,15 +87,15 @@ module _ (w : Wanted) (b : List ℕ) (k j : ℕ) where
           rw e (omega (arith, pow_pos (count_trailing_zeros 64 m)))
 
       -- the slot is unsound
-      pub sweep_unsound : held_at b k (64 * j + count_trailing_zeros 64 m) ≡ Unsound → pass.Unsound ≡ visited w b k (64 * (j + 1))
+      pub sweep_unsound : held_at b k (64 * j + count_trailing_zeros 64 m) ≡ None → None ≡ visited w b k (64 * (j + 1))
       sweep_unsound h =
           let t = count_trailing_zeros 64 m in
           let l = next_lt in
           let e : 64 * j + suc t + (64 - suc t) ≡ 64 * (j + 1) = omega arith in
-          sym (unsound_stays w b k (64 * j + suc t) (64 - suc t) (next_seen ∙ ap (seen w (pass.Seen best)) h)) ∙ ap (visited w b k) e
+          sym (unsound_stays w b k (64 * j + suc t) (64 - suc t) (next_seen ∙ ap (seen w (Some best)) h)) ∙ ap (visited w b k) e
 
       -- it is not
-      pub sweep_more : (more : Best) → seen w (pass.Seen best) (held_at b k (64 * j + count_trailing_zeros 64 m)) ≡ pass.Seen more
+      pub sweep_more : (more : Best) → seen w (Some best) (held_at b k (64 * j + count_trailing_zeros 64 m)) ≡ Some more
           → Sweep w b k j more (bit_and m (m - 1))
       sweep_more more r =
           let t = count_trailing_zeros 64 m in

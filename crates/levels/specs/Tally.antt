@@ -1,20 +1,16 @@
 -- A pass keeps the best price so far of the orders that it has seen and that are wanted. Said of any sum F that grows by each
 -- order's weight: neither slots nor how many of them stand here, but for `sees`, which says it of a pass. Assumes nothing.
-use Rattle.std.specs.Prelude.{◌≡◌, ℕ, zero, suc, ◌+◌, ◌<◌, ◌≤◌, Bool, true, false, cond, ◌&&◌, ltb, ◌≢◌, List, ◌==◌, nat_eq, nat_le, nat_lt}
+use Rattle.std.specs.Prelude.{◌≡◌, ℕ, zero, suc, ◌+◌, ◌<◌, ◌≤◌, Bool, true, false, cond, ◌&&◌, ltb, ◌≢◌, List, ◌==◌, nat_eq, nat_le, nat_lt, Option, Some, None}
 use Rattle.std.proofs.Math.Path.{refl}
 use Rattle.std.proofs.Common.{sym, ◌∙◌, ⊎_elim, arith, eq-eqb, ne_eqb, eqb-true, ltb-true, ltb-false, leb-true}
 use Rattle.std.proofs.lemmas.Bool.{eqb-false}
 use Rattle.laws.specs.Bools.{and_left, and_right, and_both}
 use Rattle.laws.specs.Definitions.{sum_to}
 use Rattle.orders.specs.declared.Order.{Order}
-use Rattle.orders.specs.declared.Held.{Held}
-use Rattle.orders.specs.declared.Held.TheVariants.{Sound, Unsound}
 use Rattle.orders.specs.Order.{remaining}
 use Rattle.slots.specs.Stored.{held_at}
 use Rattle.levels.specs.declared.Wanted.{Wanted}
 use Rattle.levels.specs.declared.Best.{Best}
-use Rattle.levels.specs.declared.Pass.{Pass}
-use Rattle.levels.specs.declared.Pass.TheVariants as pass
 use Rattle.levels.specs.Levels.{same_side, unsoundness}
 use Rattle.levels.specs.Ticks.{ticks_to}
 use Rattle.levels.specs.Totals.{weighed}
@@ -103,17 +99,17 @@ abbrev pub wanted_at : Wanted → ℕ → Order → Bool
 wanted_at w i o = is_wanted w o && away w o == i
 
 -- f of such an order, and of no other
-abbrev pub of_wanted : Wanted → (Order → ℕ) → ℕ → Held → ℕ
-of_wanted w f i (Sound o) = cond (wanted_at w i o) (f o) 0
-of_wanted w f i Unsound = 0
+abbrev pub of_wanted : Wanted → (Order → ℕ) → ℕ → Option Order → ℕ
+of_wanted w f i (Some o) = cond (wanted_at w i o) (f o) 0
+of_wanted w f i None = 0
 
 -- x is the best of the orders wanted, by the sums F of their weights
-abbrev pub BestBy : Wanted → ((Held → ℕ) → ℕ) → Best → Type 0
+abbrev pub BestBy : Wanted → ((Option Order → ℕ) → ℕ) → Best → Type 0
 BestBy w F x = Leads (λ i. F (of_wanted w remaining i)) (λ i. F (of_wanted w (λ o. 1) i)) w.from w.to x
 
-pub data Sees (w : Wanted) (F : (Held → ℕ) → ℕ) : Pass → Type 0 where
-  saw_unsound : 0 < F unsoundness → Sees w F pass.Unsound
-  saw_sound : (x : Best) → F unsoundness ≡ 0 → BestBy w F x → Sees w F (pass.Seen x)
+pub data Sees (w : Wanted) (F : (Option Order → ℕ) → ℕ) : Option Best → Type 0 where
+  saw_unsound : 0 < F unsoundness → Sees w F None
+  saw_sound : (x : Best) → F unsoundness ≡ 0 → BestBy w F x → Sees w F (Some x)
 
 -- an order that is wanted is not before `from`, and below `to`
 pub wanted_inside : (w : Wanted) (o : Order) → is_wanted w o ≡ true → (w.from ≤ away w o) × (away w o < w.to)
@@ -126,10 +122,10 @@ wanted_inside w o e =
     (leb-true _ _ (and_left late early both), ltb-true _ _ (and_right late early both))
 
 -- each sum grows by the weight of h
-record Grows (F F' : (Held → ℕ) → ℕ) (h : Held) : Type 0 where
-  by : (f : Held → ℕ) → F' f ≡ F f + f h
+record Grows (F F' : (Option Order → ℕ) → ℕ) (h : Option Order) : Type 0 where
+  by : (f : Option Order → ℕ) → F' f ≡ F f + f h
 
-module _ (w : Wanted) {F F' : (Held → ℕ) → ℕ} (o : Order) (g : Grows F F' (Sound o)) where
+module _ (w : Wanted) {F F' : (Option Order → ℕ) → ℕ} (o : Order) (g : Grows F F' (Some o)) where
   adds : (f : Order → ℕ) (i : ℕ) → wanted_at w i o ≡ true → F' (of_wanted w f i) ≡ F (of_wanted w f i) + f o
   adds f i e = g.by (of_wanted w f i) ∙ rw e
 
@@ -154,15 +150,15 @@ module _ (w : Wanted) {F F' : (Held → ℕ) → ℕ} (o : Order) (g : Grows F F
       go false e = stays (λ i. keeps remaining i (rw e)) (λ i. keeps (λ o. 1) i (rw e)) l
 
 -- nothing more: it sees the same
-same : {w : Wanted} {F F' : (Held → ℕ) → ℕ} {p : Pass} → ((f : Held → ℕ) → F' f ≡ F f) → Sees w F p → Sees w F' p
+same : {w : Wanted} {F F' : (Option Order → ℕ) → ℕ} {p : Option Best} → ((f : Option Order → ℕ) → F' f ≡ F f) → Sees w F p → Sees w F' p
 same e (saw_unsound h) = saw_unsound (omega (arith, e unsoundness))
 same e (saw_sound x z l) = saw_sound x (e unsoundness ∙ z) (stays (λ i. e _) (λ i. e _) l)
 
 -- what a live slot holds more
-sees_more : {w : Wanted} {F F' : (Held → ℕ) → ℕ} {p : Pass} → Sees w F p → (h : Held) → Grows F F' h → Sees w F' (seen w p h)
+sees_more : {w : Wanted} {F F' : (Option Order → ℕ) → ℕ} {p : Option Best} → Sees w F p → (h : Option Order) → Grows F F' h → Sees w F' (seen w p h)
 sees_more (saw_unsound l) h g = saw_unsound (omega (arith, g.by unsoundness))
-sees_more (saw_sound x z l) Unsound g = saw_unsound (omega (arith, g.by unsoundness))
-sees_more {w} (saw_sound x z l) (Sound o) g = saw_sound (considered w x o) (omega (arith, g.by unsoundness)) (considers w o g l)
+sees_more (saw_sound x z l) None g = saw_unsound (omega (arith, g.by unsoundness))
+sees_more {w} (saw_sound x z l) (Some o) g = saw_sound (considered w x o) (omega (arith, g.by unsoundness)) (considers w o g l)
 
 -- after n slots
 pub sees : (w : Wanted) (b : List ℕ) (k n : ℕ) → Sees w (λ f. sum_to (weighed f b k) n) (visited w b k n)

@@ -1,6 +1,6 @@
 -- The laws of ticks: they are prices in the order of better to worse, the best level not before a tick is that of the first tick at
 -- which an order stands (`from_first`), and the best and the next level are such ones (`best_from`, `next_from_lem`). Assumes nothing.
-use Rattle.std.specs.Prelude.{◌≡◌, ℕ, zero, suc, ◌+◌, ◌-◌, ◌<◌, ◌≤◌, Bool, true, false, cond, ◌&&◌, leb, List, length, nat_le, nat_lt, refl}
+use Rattle.std.specs.Prelude.{◌≡◌, ℕ, zero, suc, ◌+◌, ◌-◌, ◌<◌, ◌≤◌, Bool, true, false, cond, ◌&&◌, leb, List, length, nat_le, nat_lt, refl, Option, Result, Some, None, Ok}
 use Rattle.std.proofs.Common.{sym, ap, subst, ◌∙◌, add-one, sub-one, arith}
 use Rattle.std.proofs.Math.Logic.{⊎_elim}
 use Rattle.std.proofs.Math.Nat.{sub-zero, suc-sub-suc}
@@ -14,11 +14,10 @@ use Rattle.kinds.specs.declared.Side.TheVariants.{Buy, Sell}
 use Rattle.kinds.specs.Sides.{side_of}
 use Rattle.book.specs.Book.{words_of}
 use Rattle.levels.specs.declared.Level.{Level}
-use Rattle.levels.specs.declared.Quote.{Quote}
-use Rattle.levels.specs.declared.Quote.TheVariants.{Nothing, Stands}
 use Rattle.levels.specs.Totals.{total}
 use Rattle.levels.specs.Levels.{orders_at, level_at, some_at, highest, lowest, all_prices, best_where, better, checked, best_of, next_of}
 use Rattle.levels.specs.Ticks.{price_at, ticks_to, first_tick, level_from}
+use Rattle.refusals.specs.declared.Refusal.{Refusal}
 
 -- ---- prices and ticks: one for the other
 
@@ -96,9 +95,9 @@ unfolding highest lowest least pick_n
 mirror passes level zero = refl
 mirror passes level (suc n) = simp (suc-sub-suc, sub-one) (go (passes n) (mirror passes level n))
   where
-    go : (c : Bool) {q : Quote} → q ≡ lowest (λ i. passes (n - suc i)) (λ i. level (n - suc i)) n
-        → cond c (Stands (level n)) q
-        ≡ (let i = pick_n c zero (suc (least (λ i. passes (n - suc i)) n)) in cond (nat_lt i (suc n)) (Stands (level (n - i))) Nothing)
+    go : (c : Bool) {q : Result (Option Level) Refusal} → q ≡ lowest (λ i. passes (n - suc i)) (λ i. level (n - suc i)) n
+        → cond c (Ok (Some (level n))) q
+        ≡ (let i = pick_n c zero (suc (least (λ i. passes (n - suc i)) n)) in cond (nat_lt i (suc n)) (Ok (Some (level (n - i)))) (Ok None))
     go true e = rw (lt-ltb 0 (suc n) (omega arith), sub-zero)
     go false e = e ∙ rw (leb-suc-suc (suc (least (λ i. passes (n - suc i)) n)) n)
 
@@ -111,11 +110,11 @@ ticked b k l Buy passes = simp (suc-sub-suc 4294967295) at (mirror (λ p. passes
 ticked b k l Sell passes = refl
 
 pub from_first : (b : List ℕ) (k l : ℕ) (side : Side) (from : ℕ) → let i = first_tick b k l side from all_prices in
-    level_from b k l side from ≡ cond (nat_lt i all_prices) (Stands (level_at b k l side (price_at side i))) Nothing
+    level_from b k l side from ≡ cond (nat_lt i all_prices) (Ok (Some (level_at b k l side (price_at side i)))) (Ok None)
 unfolding level_from first_tick lowest
 from_first b k l side from =
     ticked b k l side (λ p. leb from (ticks_to side p))
-    ∙ ap (λ i. cond (nat_lt i all_prices) (Stands (level_at b k l side (price_at side i))) Nothing)
+    ∙ ap (λ i. cond (nat_lt i all_prices) (Ok (Some (level_at b k l side (price_at side i)))) (Ok None))
     (least_ext _ _ all_prices λ i h. ap (λ n. nat_le from n && some_at b k l side (price_at side i)) (ticks_price side i h))
 
 -- ---- the questions

@@ -1,16 +1,12 @@
 -- What one pass over the live slots sees: the best price so far of those wanted, with the shares and the orders there, or that a
 -- slot is unsound. It goes by slots; Seen.antt ties it to the definitions, which do not. Assumes nothing.
-use Rattle.std.specs.Prelude.{ℕ, zero, suc, ◌+◌, Bool, cond, ◌&&◌, List, ◌==◌, nat_le, nat_lt}
+use Rattle.std.specs.Prelude.{ℕ, zero, suc, ◌+◌, Bool, cond, ◌&&◌, List, ◌==◌, nat_le, nat_lt, Option, Some, None}
 use Rattle.book.specs.Book.{live}
 use Rattle.orders.specs.declared.Order.{Order}
-use Rattle.orders.specs.declared.Held.{Held}
-use Rattle.orders.specs.declared.Held.TheVariants.{Sound, Unsound}
 use Rattle.orders.specs.Order.{remaining}
 use Rattle.slots.specs.Stored.{held_at}
 use Rattle.levels.specs.declared.Wanted.{Wanted}
 use Rattle.levels.specs.declared.Best.{Best}
-use Rattle.levels.specs.declared.Pass.{Pass}
-use Rattle.levels.specs.declared.Pass.TheVariants as pass
 use Rattle.levels.specs.Levels.{same_side}
 use Rattle.levels.specs.Ticks.{ticks_to}
 
@@ -29,16 +25,16 @@ joined best ticks shares =
 unfoldable pub considered : Wanted → Best → Order → Best
 considered w best o = cond (is_wanted w o) (joined best (ticks_to w.side o.price.0) (remaining o)) best
 
-abbrev pub seen : Wanted → Pass → Held → Pass
-seen w pass.Unsound h = pass.Unsound
-seen w (pass.Seen best) Unsound = pass.Unsound
-seen w (pass.Seen best) (Sound o) = pass.Seen (considered w best o)
+abbrev pub seen : Wanted → Option Best → Option Order → Option Best
+seen w None h = None
+seen w (Some best) None = None
+seen w (Some best) (Some o) = Some (considered w best o)
 
 -- nothing seen yet
-abbrev pub begun : Wanted → Pass
-begun w = pass.Seen (record { ticks = w.to; shares = 0; orders = 0 })
+abbrev pub begun : Wanted → Option Best
+begun w = Some (record { ticks = w.to; shares = 0; orders = 0 })
 
 -- after the slots below n
-unfoldable pub visited : Wanted → List ℕ → ℕ → ℕ → Pass
+unfoldable pub visited : Wanted → List ℕ → ℕ → ℕ → Option Best
 visited w b k zero = begun w
 visited w b k (suc n) = cond (live b n == 1) (seen w (visited w b k n) (held_at b k n)) (visited w b k n)

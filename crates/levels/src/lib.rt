@@ -3,7 +3,6 @@
 #![tactic(auto)]
 
 ghost use Rattle.std.specs.Prelude.{◌≡◌, ℕ, ◌+◌, ◌*◌, ◌<◌, ◌≤◌, min};
-ghost use Rattle.book.specs.Shape.{Sized};
 ghost use Rattle.orders.specs.Order.{held};
 ghost use Rattle.slots.specs.Stored.{held_at};
 ghost use Rattle.levels.specs.Ticks.{ticks_to};
@@ -12,8 +11,8 @@ ghost use Rattle.levels.specs.Glances.{Based, glanced, lettered, room_of};
 
 pub mod questions;
 
+use book::Book;
 use kinds::{Locate, Side, Slot};
-use refusals::Refusal;
 
 // A price with what remains of the orders that stand there, and how many they are.
 #[derive(Drop)]
@@ -21,21 +20,6 @@ pub struct Level {
     pub price: u32,
     pub shares: u64,
     pub orders: u64,
-}
-
-// The answer to a question about levels.
-#[derive(Drop)]
-pub enum Quote {
-    Refused(Refusal),
-    Nothing,
-    Stands(Level),
-}
-
-// What a pass over a book that may be no book comes to: why it is refused, or the best price with what stands there.
-#[derive(Drop)]
-pub enum Survey {
-    Refused(Refusal),
-    Answered(Best),
 }
 
 // The orders that a pass looks for: of a stock's side, at prices not before `from` and below `to`, in ticks from the best possible.
@@ -55,15 +39,8 @@ pub struct Best {
     pub orders: u64,
 }
 
-// What a pass has seen.
-#[derive(Drop)]
-pub enum Pass {
-    Unsound,
-    Seen(Best),
-}
-
 // What a live slot is to a pass: unsound, nothing, or an order wanted at a price no worse than the best so far, so many ticks from
-// the best possible and with so many shares.
+// the best possible and with so many shares. (Three cases with names: an Option in an Option would name none.)
 #[derive(Drop)]
 pub enum Glimpse {
     Unsound,
@@ -94,20 +71,14 @@ fn base_of(w: Wanted) -> u64
     ((locate.0 as u64) * 256 + side.byte()) * 1099511627776 + w.from
 }
 
-fn lesser(a: u64, b: u64) -> u64
-    ensures { result ≡ min a b }
-{
-    if a < b { a } else { b }
-}
-
 // How many ticks from there on are wanted and no worse than the tick `most`.
 fn room_of(w: Wanted, most: u64) -> u64
     ensures { result ≡ room_of w most }
 {
     let from = w.from;
-    let to = lesser(w.to, 4294967296);
-    let past = lesser(most, 4294967296) + 1;
-    let end = lesser(to, past);
+    let to = w.to.min(4294967296);
+    let past = most.min(4294967296) + 1;
+    let end = to.min(past);
     if end <= from {
         return 0;
     }
@@ -170,13 +141,13 @@ fn weigh(n1: u64, n2: u64, n3: u64, w: Wanted, most: u64, base: u64, room: u64) 
 }
 
 // What a live slot is to a pass.
-fn glance(book: &[u64], k: usize, slot: Slot, w: Wanted, most: u64, base: u64, room: u64) -> Glimpse
-    requires { Sized book.now k × (slot.0 < 64 * k) × Based w base × (room ≡ room_of w most) }
-    ensures { result ≡ glanced w most (held_at book.now k slot.0) }
+fn glance(book: Book<'_>, slot: Slot, w: Wanted, most: u64, base: u64, room: u64) -> Glimpse
+    requires { (slot.0 < 64 * book.k) × Based w base × (room ≡ room_of w most) }
+    ensures { result ≡ glanced w most (held_at book.entry.numbers.now book.entry.k slot.0) }
 {
-    let n1 = book::number_at(book, k, slot, 1);
-    let n2 = book::number_at(book, k, slot, 2);
-    let n3 = book::number_at(book, k, slot, 3);
+    let n1 = book.number_at(slot, 1);
+    let n2 = book.number_at(slot, 2);
+    let n3 = book.number_at(slot, 3);
     weigh(n1, n2, n3, w, most, base, room)
 }
 
@@ -199,21 +170,22 @@ fn join(best: Best, ticks: u64, shares: u32) -> Best
     }
 }
 
-// The pass over the live slots of map number j, by its one bits.
-fn scan_word(book: &[u64], k: usize, j: usize, w: Wanted, best: Best) -> Pass
-    requires { Sized book.now k × (j < k) × (visited w book.now k (64 * j) ≡ Pass.Seen best) }
-    ensures { result ≡ visited w book.now k (64 * (j + 1)) }
+// The pass over the live slots of map number j, by its one bits; none where one is unsound.
+fn scan_word(book: Book<'_>, j: usize, w: Wanted, best: Best) -> Option<Best>
+    requires { (j < book.k) × (visited w book.numbers.now book.k (64 * j) ≡ Some best) }
+    ensures { result ≡ visited w book.entry.numbers.now book.entry.k (64 * (j + 1)) }
 {
     let base = base_of(w);
     let mut now = best;
     let mut room = room_of(w, now.ticks);
-    let mut m = book[j];
+    let numbers = book.numbers;
+    let mut m = numbers[j];
     while m != 0 {
-        let t = u64::trailing_zeros(m) as usize;
-        let glimpse = glance(book, k, Slot(64 * j + t), w, now.ticks, base, room);
+        let t = m.trailing_zeros() as usize;
+        let glimpse = glance(book, Slot(64 * j + t), w, now.ticks, base, room);
         match glimpse {
             Glimpse::Unsound => {
-                return Pass::Unsound;
+                return None;
             }
             Glimpse::Other => {}
             Glimpse::Stands(ticks, shares) => {
@@ -223,27 +195,20 @@ fn scan_word(book: &[u64], k: usize, j: usize, w: Wanted, best: Best) -> Pass
         }
         m = m & (m - 1);
     }
-    Pass::Seen(now)
+    Some(now)
 }
 
-// The pass over all live slots.
-fn scan(book: &[u64], k: usize, w: Wanted) -> Pass
-    requires { Sized book.now k }
-    ensures { result ≡ visited w book.now k (64 * k) }
+// The pass over all live slots; none where one is unsound.
+fn scan(book: Book<'_>, w: Wanted) -> Option<Best>
+    ensures { result ≡ visited w book.entry.numbers.now book.entry.k (64 * book.entry.k) }
 {
     let mut best = Best {
         ticks: w.to,
         shares: 0,
         orders: 0,
     };
-    let mut j: usize = 0;
-    while j < k {
-        let pass = scan_word(book, k, j, w, best);
-        let Pass::Seen(more) = pass else {
-            return pass;
-        };
-        best = more;
-        j += 1;
+    for j in 0..book.k {
+        best = scan_word(book, j, w, best)?;
     }
-    Pass::Seen(best)
+    Some(best)
 }

@@ -1,12 +1,12 @@
 -- The numbers of an answer: 01's number for it, and where the message is accepted its type byte and its fields, in the order
 -- of the table of fields. One definition gives them for every case of the answer. Assumes nothing.
-use Rattle.std.specs.Prelude.{ℕ, List, [], ◌∷◌}
+use Rattle.refusals.specs.Refusals.{refusal_number}
+use Rattle.std.specs.Prelude.{ℕ, List, [], ◌∷◌, Result, Ok, Err}
 use Rattle.kinds.specs.Sides.{side_byte}
 use Rattle.messages.specs.declared.Head.{Head}
 use Rattle.messages.specs.declared.Message.{Message}
 use Rattle.messages.specs.declared.Message.TheVariants as m
-use Rattle.messages.specs.declared.Answer.{Answer}
-use Rattle.messages.specs.declared.Answer.TheVariants.{Good, Refused}
+use Rattle.refusals.specs.declared.Refusal.{Refusal}
 
 -- a message's type byte
 abbrev pub letter_of : Message → ℕ
@@ -65,6 +65,6 @@ values_of (m.RetailInterest r) = after r.head (r.stock ∷ r.interest_flag ∷ [
 values_of (m.DirectListing r) = after r.head (r.stock ∷ r.open_eligibility_status ∷ r.minimum_allowable_price.0 ∷ r.maximum_allowable_price.0 ∷ r.near_execution_price.0 ∷ r.near_execution_time ∷ r.lower_price_range_collar.0 ∷ r.upper_price_range_collar.0 ∷ [])
 
 -- the numbers of an answer: 0 with the message's, or the refusal's alone
-abbrev pub numbers : Answer → List ℕ
-numbers (Good r) = 0 ∷ letter_of r ∷ values_of r
-numbers (Refused r) = r.number ∷ []
+abbrev pub numbers : Result Message Refusal → List ℕ
+numbers (Ok r) = 0 ∷ letter_of r ∷ values_of r
+numbers (Err r) = refusal_number r ∷ []

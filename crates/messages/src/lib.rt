@@ -1,9 +1,8 @@
-// The messages of TotalView-ITCH 5.0 as types: one struct a kind, with the fields and names of document 000, and the answer
-// to a message that is read. It knows nothing of bytes or tables, and holds no code.
+// The messages of TotalView-ITCH 5.0 as types: one struct a kind, with the fields and names of document 000.
+// It knows nothing of bytes or tables, and holds no code.
 #![tactic(auto)]
 
 use kinds::{Locate, Price, Reference, Side};
-use refusals::Refusal;
 
 // The fields that every message begins with.
 #[derive(Clone, Copy)]
@@ -275,11 +274,4 @@ pub enum Message {
     NetOrderImbalance(NetOrderImbalance),
     RetailInterest(RetailInterest),
     DirectListing(DirectListing),
-}
-
-// What reading a message comes to.
-#[derive(Drop)]
-pub enum Answer {
-    Good(Message),
-    Refused(Refusal),
 }

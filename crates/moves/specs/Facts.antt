@@ -1,13 +1,10 @@
 -- What a verdict says of what was asked and of the tables, one record for each kind, with all that the step's callers need.
 -- Judged.antt proves it of `judged`. Assumes nothing.
-use Rattle.std.specs.Prelude.{◌≡◌, ◌≢◌, ◌⊎◌, List, ℕ, ◌*◌, ◌≤◌, ◌<◌, length}
+use Rattle.std.specs.Prelude.{◌≡◌, ◌≢◌, ◌⊎◌, List, ℕ, ◌*◌, ◌≤◌, ◌<◌, length, Some, None}
 use Rattle.kinds.specs.declared.Slot.{Slot}
-use Rattle.book.specs.declared.Found.TheVariants.{At, Nothing}
 use Rattle.book.specs.Book.{live, find, lowest_free, clear_slot}
-use Rattle.directory.specs.declared.Entry.TheVariants.{Symbol}
 use Rattle.directory.specs.Directory.{entry_at}
 use Rattle.orders.specs.declared.Order.{Order}
-use Rattle.orders.specs.declared.Held.TheVariants.{Sound}
 use Rattle.orders.specs.Order.{remaining}
 use Rattle.orders.specs.OrderLaws.{Fit}
 use Rattle.decide.specs.Decide.{Verdict, refuse, enter, alter, leave, renew, enroll, pass, renewed}
@@ -20,10 +17,10 @@ use Rattle.moves.specs.Lawful.{Starts, Symbolic}
 -- o is the order found under the reference r
 pub record Rests (b : List ℕ) (k r : ℕ) (o : Order) : Type 0 where
   pub slot : Slot
-  pub found : find b k r ≡ At slot
+  pub found : find b k r ≡ Some slot
   pub inside : slot.0 < 64 * k
   pub alive : live b slot.0 ≡ 1
-  pub holding : held_at b k slot.0 ≡ Sound o
+  pub holding : held_at b k slot.0 ≡ Some o
   pub reference : o.reference.0 ≡ r
   pub fits : r < 18446744073709551616
   pub fit : Fit o
@@ -32,11 +29,11 @@ pub record Rests (b : List ℕ) (k r : ℕ) (o : Order) : Type 0 where
 pub record Entering (d b : List ℕ) (k : ℕ) (a : Asked) (o : Order) : Type 0 where
   pub symbol : ℕ
   pub asks : a ≡ start o symbol
-  pub listed : entry_at d o.locate.0 ≡ Symbol symbol
+  pub listed : entry_at d o.locate.0 ≡ Some symbol
   pub symbolic : Symbolic symbol
-  pub unknown : find b k o.reference.0 ≡ Nothing
+  pub unknown : find b k o.reference.0 ≡ None
   pub slot : Slot
-  pub free : lowest_free b k ≡ At slot
+  pub free : lowest_free b k ≡ Some slot
   pub starts : Starts o
   pub fit : Fit o
 
@@ -71,9 +68,9 @@ pub record Renewing (b : List ℕ) (k : ℕ) (a : Asked) (o o' : Order) : Type 0
   pub rests : Rests b k original o
   pub here : o.locate.0 ≡ locate
   pub other : new ≢ original
-  pub unknown : find b k new ≡ Nothing
+  pub unknown : find b k new ≡ None
   pub slot : Slot
-  pub free : lowest_free (clear_slot b k rests.slot.0) k ≡ At slot
+  pub free : lowest_free (clear_slot b k rests.slot.0) k ≡ Some slot
   pub fits : new < 18446744073709551616
   pub after : o' ≡ renewed o new shares price
   pub fit : Fit o'
@@ -81,7 +78,7 @@ pub record Renewing (b : List ℕ) (k : ℕ) (a : Asked) (o o' : Order) : Type 0
 -- R, where no symbol stands
 pub record Enrolling (d : List ℕ) (a : Asked) (l symbol : ℕ) : Type 0 where
   pub asks : a ≡ register l symbol
-  pub vacant : entry_at d l ≡ Symbol 0
+  pub vacant : entry_at d l ≡ Some 0
   pub from : 1 ≤ l
   pub inside : l < length d
   pub symbolic : Symbolic symbol
@@ -91,7 +88,7 @@ pub record Standing (d : List ℕ) (a : Asked) : Type 0 where
   pub locate : ℕ
   pub symbol : ℕ
   pub asks : a ≡ register locate symbol
-  pub listed : entry_at d locate ≡ Symbol symbol
+  pub listed : entry_at d locate ≡ Some symbol
   pub symbolic : Symbolic symbol
 
 -- the facts of a verdict

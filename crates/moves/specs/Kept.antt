@@ -1,5 +1,5 @@
 -- What a step keeps of the tables' shapes: their lengths, whatever the verdict, and that every number fits 64 bits. Assumes nothing.
-use Rattle.std.specs.Prelude.{◌≡◌, refl, ◌≢◌, Bool, true, false, cond, List, ℕ, ◌+◌, ◌*◌, ◌/◌, ◌%◌, ◌≤◌, ◌<◌, eqb, length, get_or, set}
+use Rattle.std.specs.Prelude.{◌≡◌, refl, ◌≢◌, Bool, true, false, cond, List, ℕ, ◌+◌, ◌*◌, ◌/◌, ◌%◌, ◌≤◌, ◌<◌, eqb, length, get_or, set, Option, Some, None}
 use Rattle.std.proofs.Common.{ap, ◌∙◌, ⊎_elim, get_or-set_same, get_or-set_other}
 use native.Mathlib.Omega.{arith}
 use Rattle.std.proofs.lemmas.Bool.{eqb-false}
@@ -12,8 +12,6 @@ use Rattle.kinds.specs.declared.Side.{Side}
 use Rattle.kinds.specs.declared.Side.TheVariants.{Buy, Sell}
 use Rattle.kinds.specs.Sides.{side_byte}
 use Rattle.directory.specs.DirectoryLaws.{registered_below, registered-length}
-use Rattle.book.specs.declared.Found.{Found}
-use Rattle.book.specs.declared.Found.TheVariants.{At, Nothing}
 use Rattle.book.specs.Book.{four, put_slot, clear_slot, lowest_free}
 use Rattle.book.specs.Slots.{put-length, clear_length}
 use Rattle.orders.specs.declared.Order.{Order}
@@ -26,6 +24,7 @@ use Rattle.steps.specs.Asked.{Asked}
 use Rattle.moves.specs.Moves.{Numbers}
 use Rattle.moves.specs.Facts.{Facts}
 use Rattle.moves.specs.Altered.{altered_reference, altered_fit}
+use Rattle.kinds.specs.declared.Slot.{Slot}
 
 -- ---- lengths
 
@@ -37,9 +36,9 @@ entered-length : (b : List ℕ) (k : ℕ) (o : Order) → length (entered b k o)
 unfolding entered
 entered-length b k o = go (lowest_free b k)
   where
-    go : (f : Found) → length (placed b k o f) ≡ length b
-    go (At s) = put_order_length b k s.0 o
-    go Nothing = refl
+    go : (f : Option Slot) → length (placed b k o f) ≡ length b
+    go (Some s) = put_order_length b k s.0 o
+    go None = refl
 
 kept-length : (b : List ℕ) (k s : ℕ) (o : Order) → length (kept b k s o) ≡ length b
 unfolding kept
@@ -134,9 +133,9 @@ entered-numbers : (b : List ℕ) (k : ℕ) (o : Order) → Numbers b → Fit o �
 unfolding entered
 entered-numbers b k o n f r = go (lowest_free b k)
   where
-    go : (g : Found) → Numbers (placed b k o g)
-    go (At s) = put-numbers b k s.0 o n f r
-    go Nothing = n
+    go : (g : Option Slot) → Numbers (placed b k o g)
+    go (Some s) = put-numbers b k s.0 o n f r
+    go None = n
 
 kept-numbers : (b : List ℕ) (k s : ℕ) (o : Order) → Numbers b → (remaining o ≢ 0 → Fit o)
     → Fits o.reference.0 → Numbers (kept b k s o)

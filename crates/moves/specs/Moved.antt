@@ -1,19 +1,16 @@
 -- The law of a step, from a verdict's facts (`moves`): what the verdict takes out of a total and what it puts in. What stays is the
 -- book with the old order's slot cleared. Assumes nothing.
-use Rattle.std.specs.Prelude.{◌≡◌, ◌≢◌, Bool, true, false, cond, List, eqb}
+use Rattle.std.specs.Prelude.{◌≡◌, ◌≢◌, Bool, true, false, cond, List, eqb, Option, Some}
 use Rattle.std.proofs.Math.Path.{refl}
 use Rattle.std.proofs.Common.{sym, ap, subst, ◌∙◌, arith}
 use Prim.Native.Nat.{ℕ, ◌+◌}
 use Rattle.std.proofs.lemmas.Bool.{eqb-false}
 use Rattle.kinds.specs.declared.Slot.{Slot}
-use Rattle.book.specs.declared.Found.TheVariants.{At}
 use Rattle.book.specs.Book.{find, lowest_free, clear_slot}
 use Rattle.book.specs.Finds.{free_slot}
 use Rattle.book.specs.Shape.{Sized}
 use Rattle.book.specs.Slots.{clear_sized}
 use Rattle.orders.specs.declared.Order.{Order}
-use Rattle.orders.specs.declared.Held.{Held}
-use Rattle.orders.specs.declared.Held.TheVariants.{Sound}
 use Rattle.orders.specs.Order.{remaining}
 use Rattle.orders.specs.OrderLaws.{Fit}
 use Rattle.decide.specs.Decide.{Verdict, refuse, enter, alter, leave, renew, enroll, pass}
@@ -28,8 +25,8 @@ use Rattle.moves.specs.Altered.{altered_fit}
 use Rattle.moves.specs.Kept.{stored-length}
 
 -- an order that enters adds its weight
-pub entered-total : (w : Held → ℕ) (b : List ℕ) (k : ℕ) (o : Order) (s : Slot) → Sized b k → Fit o → lowest_free b k ≡ At s
-    → total w (entered b k o) k ≡ total w b k + w (Sound o)
+pub entered-total : (w : Option Order → ℕ) (b : List ℕ) (k : ℕ) (o : Order) (s : Slot) → Sized b k → Fit o → lowest_free b k ≡ Some s
+    → total w (entered b k o) k ≡ total w b k + w (Some o)
 unfolding entered
 entered-total w b k o s z f e =
     let g = free_slot b k s e in
@@ -39,12 +36,12 @@ entered-total w b k o s z f e =
 
 module _ {b : List ℕ} {k r : ℕ} {o : Order} (z : Sized b k) (i : Rests b k r o) where
   -- the book without it
-  pub left_total : (w : Held → ℕ) → total w (clear_slot b k i.slot.0) k + w (Sound o) ≡ total w b k
+  pub left_total : (w : Option Order → ℕ) → total w (clear_slot b k i.slot.0) k + w (Some o) ≡ total w b k
   left_total w = clear_held_total b k i.slot.0 z i.inside w o i.alive i.holding
 
   -- kept as o', or gone where nothing remains of that
-  pub kept-total : (w : Held → ℕ) (o' : Order) → (remaining o' ≢ 0 → Fit o')
-      → total w (kept b k i.slot.0 o') k ≡ total w (clear_slot b k i.slot.0) k + cond (eqb (remaining o') 0) 0 (w (Sound o'))
+  pub kept-total : (w : Option Order → ℕ) (o' : Order) → (remaining o' ≢ 0 → Fit o')
+      → total w (kept b k i.slot.0 o') k ≡ total w (clear_slot b k i.slot.0) k + cond (eqb (remaining o') 0) 0 (w (Some o'))
   unfolding kept
   kept-total w o' f = go (eqb (remaining o') 0) refl
     where
@@ -52,7 +49,7 @@ module _ {b : List ℕ} {k r : ℕ} {o : Order} (z : Sized b k) (i : Rests b k r
       s = i.slot.0
 
       go : (t : Bool) → eqb (remaining o') 0 ≡ t
-          → total w (cond t (clear_slot b k s) (put_order b k s o')) k ≡ total w (clear_slot b k s) k + cond t 0 (w (Sound o'))
+          → total w (cond t (clear_slot b k s) (put_order b k s o')) k ≡ total w (clear_slot b k s) k + cond t 0 (w (Some o'))
       go true e = omega arith
       go false e =
           omega (arith, put-total b k s z i.inside o' w (f (eqb-false (remaining o') 0 e)), clear_total b k s z i.inside w)
@@ -60,14 +57,14 @@ module _ {b : List ℕ} {k r : ℕ} {o : Order} (z : Sized b k) (i : Rests b k r
 -- ---- a verdict with its facts
 
 -- nothing moves
-still : {b : List ℕ} {k : ℕ} {v : Verdict} → ((w : Held → ℕ) → taken_out w v ≡ 0) → ((w : Held → ℕ) → put_in w v ≡ 0) → Moved b b k v
+still : {b : List ℕ} {k : ℕ} {v : Verdict} → ((w : Option Order → ℕ) → taken_out w v ≡ 0) → ((w : Option Order → ℕ) → put_in w v ≡ 0) → Moved b b k v
 still {b} {k} out put =
     record { size = refl; rest = λ w. total w b k; took = λ w. omega (arith, out w); gave = λ w. omega (arith, put w) }
 
 -- the order that rests under r is taken out of its slot, the one that was named
 out_of : {b : List ℕ} {k r : ℕ} {o : Order} (v : Verdict) (named : ℕ) → Sized b k → (i : Rests b k r o) → named ≡ slot_of (find b k r)
-    → ((w : Held → ℕ) → taken_out w v ≡ w (Sound o))
-    → ((w : Held → ℕ) → total w (stored b k i.slot.0 v) k ≡ total w (clear_slot b k i.slot.0) k + put_in w v)
+    → ((w : Option Order → ℕ) → taken_out w v ≡ w (Some o))
+    → ((w : Option Order → ℕ) → total w (stored b k i.slot.0 v) k ≡ total w (clear_slot b k i.slot.0) k + put_in w v)
     → Moved b (stored b k named v) k v
 out_of {b} {k} v named z i at out put =
     let s = i.slot.0 in

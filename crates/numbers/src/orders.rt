@@ -1,186 +1,119 @@
 // The messages that move orders, as rows of numbers.
-ghost use Rattle.std.specs.Prelude.{◌≡◌};
 ghost use Rattle.messages.specs.declared.Message.{Message};
-ghost use Rattle.numbers.specs.Shown.{message_row};
 
+use crate::row::{Row, headed};
 use messages::{
     AddOrder, AddOrderMpid, OrderCancel, OrderDelete, OrderExecuted, OrderExecutedWithPrice,
     OrderReplace,
 };
 
-pub fn add_order(m: AddOrder, out: &mut [u64; 18])
-    ensures { out.new ≡ message_row (Message.AddOrder m) }
-{
-    let side = m.buy_sell_indicator;
-    *out = [
-        65,
-        m.head.stock_locate.0 as u64,
-        m.head.tracking_number as u64,
-        m.head.timestamp,
-        m.order_reference_number.0,
-        side.byte(),
-        m.shares as u64,
-        m.stock,
-        m.price.0 as u64,
-        0,
-        0,
-        0,
-        0,
-        0,
-        0,
-        0,
-        0,
-        0,
-    ];
+impl Row for AddOrder {
+    ghost message = { Message.AddOrder };
+
+    fn row(self) -> [u64; 18] {
+        headed(
+            b'A',
+            self.head,
+            &[
+                self.order_reference_number.0,
+                self.buy_sell_indicator.byte(),
+                u64::from(self.shares),
+                self.stock,
+                u64::from(self.price.0),
+            ],
+        )
+    }
 }
 
-pub fn add_order_mpid(m: AddOrderMpid, out: &mut [u64; 18])
-    ensures { out.new ≡ message_row (Message.AddOrderMpid m) }
-{
-    let side = m.buy_sell_indicator;
-    *out = [
-        70,
-        m.head.stock_locate.0 as u64,
-        m.head.tracking_number as u64,
-        m.head.timestamp,
-        m.order_reference_number.0,
-        side.byte(),
-        m.shares as u64,
-        m.stock,
-        m.price.0 as u64,
-        m.attribution as u64,
-        0,
-        0,
-        0,
-        0,
-        0,
-        0,
-        0,
-        0,
-    ];
+impl Row for AddOrderMpid {
+    ghost message = { Message.AddOrderMpid };
+
+    fn row(self) -> [u64; 18] {
+        headed(
+            b'F',
+            self.head,
+            &[
+                self.order_reference_number.0,
+                self.buy_sell_indicator.byte(),
+                u64::from(self.shares),
+                self.stock,
+                u64::from(self.price.0),
+                u64::from(self.attribution),
+            ],
+        )
+    }
 }
 
-pub fn order_executed(m: OrderExecuted, out: &mut [u64; 18])
-    ensures { out.new ≡ message_row (Message.OrderExecuted m) }
-{
-    *out = [
-        69,
-        m.head.stock_locate.0 as u64,
-        m.head.tracking_number as u64,
-        m.head.timestamp,
-        m.order_reference_number.0,
-        m.executed_shares as u64,
-        m.match_number,
-        0,
-        0,
-        0,
-        0,
-        0,
-        0,
-        0,
-        0,
-        0,
-        0,
-        0,
-    ];
+impl Row for OrderExecuted {
+    ghost message = { Message.OrderExecuted };
+
+    fn row(self) -> [u64; 18] {
+        headed(
+            b'E',
+            self.head,
+            &[
+                self.order_reference_number.0,
+                u64::from(self.executed_shares),
+                self.match_number,
+            ],
+        )
+    }
 }
 
-pub fn order_executed_with_price(m: OrderExecutedWithPrice, out: &mut [u64; 18])
-    ensures { out.new ≡ message_row (Message.OrderExecutedWithPrice m) }
-{
-    *out = [
-        67,
-        m.head.stock_locate.0 as u64,
-        m.head.tracking_number as u64,
-        m.head.timestamp,
-        m.order_reference_number.0,
-        m.executed_shares as u64,
-        m.match_number,
-        m.printable as u64,
-        m.execution_price.0 as u64,
-        0,
-        0,
-        0,
-        0,
-        0,
-        0,
-        0,
-        0,
-        0,
-    ];
+impl Row for OrderExecutedWithPrice {
+    ghost message = { Message.OrderExecutedWithPrice };
+
+    fn row(self) -> [u64; 18] {
+        headed(
+            b'C',
+            self.head,
+            &[
+                self.order_reference_number.0,
+                u64::from(self.executed_shares),
+                self.match_number,
+                u64::from(self.printable),
+                u64::from(self.execution_price.0),
+            ],
+        )
+    }
 }
 
-pub fn order_cancel(m: OrderCancel, out: &mut [u64; 18])
-    ensures { out.new ≡ message_row (Message.OrderCancel m) }
-{
-    *out = [
-        88,
-        m.head.stock_locate.0 as u64,
-        m.head.tracking_number as u64,
-        m.head.timestamp,
-        m.order_reference_number.0,
-        m.cancelled_shares as u64,
-        0,
-        0,
-        0,
-        0,
-        0,
-        0,
-        0,
-        0,
-        0,
-        0,
-        0,
-        0,
-    ];
+impl Row for OrderCancel {
+    ghost message = { Message.OrderCancel };
+
+    fn row(self) -> [u64; 18] {
+        headed(
+            b'X',
+            self.head,
+            &[
+                self.order_reference_number.0,
+                u64::from(self.cancelled_shares),
+            ],
+        )
+    }
 }
 
-pub fn order_delete(m: OrderDelete, out: &mut [u64; 18])
-    ensures { out.new ≡ message_row (Message.OrderDelete m) }
-{
-    *out = [
-        68,
-        m.head.stock_locate.0 as u64,
-        m.head.tracking_number as u64,
-        m.head.timestamp,
-        m.order_reference_number.0,
-        0,
-        0,
-        0,
-        0,
-        0,
-        0,
-        0,
-        0,
-        0,
-        0,
-        0,
-        0,
-        0,
-    ];
+impl Row for OrderDelete {
+    ghost message = { Message.OrderDelete };
+
+    fn row(self) -> [u64; 18] {
+        headed(b'D', self.head, &[self.order_reference_number.0])
+    }
 }
 
-pub fn order_replace(m: OrderReplace, out: &mut [u64; 18])
-    ensures { out.new ≡ message_row (Message.OrderReplace m) }
-{
-    *out = [
-        85,
-        m.head.stock_locate.0 as u64,
-        m.head.tracking_number as u64,
-        m.head.timestamp,
-        m.original_order_reference_number.0,
-        m.new_order_reference_number.0,
-        m.shares as u64,
-        m.price.0 as u64,
-        0,
-        0,
-        0,
-        0,
-        0,
-        0,
-        0,
-        0,
-        0,
-        0,
-    ];
+impl Row for OrderReplace {
+    ghost message = { Message.OrderReplace };
+
+    fn row(self) -> [u64; 18] {
+        headed(
+            b'U',
+            self.head,
+            &[
+                self.original_order_reference_number.0,
+                self.new_order_reference_number.0,
+                u64::from(self.shares),
+                u64::from(self.price.0),
+            ],
+        )
+    }
 }

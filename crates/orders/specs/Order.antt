@@ -1,12 +1,10 @@
 -- An order, the steps of its life, and the four numbers of a slot that hold it (01, 'The tables the desk lends', 'What each
 -- message does'). Assumes nothing.
-use Rattle.std.specs.Prelude.{ℕ, ◌+◌, ◌-◌, ◌*◌, ◌/◌, ◌%◌, ◌≡◌, Bool, cond, ◌&&◌, eqb, leb, ltb}
+use Rattle.std.specs.Prelude.{ℕ, ◌+◌, ◌-◌, ◌*◌, ◌/◌, ◌%◌, ◌≡◌, Bool, cond, ◌&&◌, eqb, leb, ltb, Option, Some, None}
 use Rattle.kinds.specs.Admission.{maximum}
 use Rattle.kinds.specs.Sides.{side_byte, side_of, good_side}
 use Rattle.text.specs.Text.{text}
 use Rattle.orders.specs.declared.Order.{Order}
-use Rattle.orders.specs.declared.Held.{Held}
-use Rattle.orders.specs.declared.Held.TheVariants.{Sound, Unsound}
 
 -- ---- a life
 
@@ -98,5 +96,5 @@ order_of n0 n1 n2 n3 = record {
 }
 
 -- what a live slot with these numbers holds
-unfoldable pub held : ℕ → ℕ → ℕ → ℕ → Held
-held n0 n1 n2 n3 = cond (sound n1 n2 n3) (Sound (order_of n0 n1 n2 n3)) Unsound
+unfoldable pub held : ℕ → ℕ → ℕ → ℕ → Option Order
+held n0 n1 n2 n3 = cond (sound n1 n2 n3) (Some (order_of n0 n1 n2 n3)) None

@@ -1,6 +1,6 @@
 -- The laws of an order's life, for those who keep orders in slots: what a slot holds is sound, a sound order packed into a
 -- slot's numbers is held again, a step leaves a sound order or nothing, and no step loses a share. Assumes nothing.
-use Rattle.std.specs.Prelude.{◌≡◌, refl, ℕ, ◌+◌, ◌-◌, ◌/◌, ◌%◌, ◌≤◌, ◌<◌, true}
+use Rattle.std.specs.Prelude.{◌≡◌, refl, ℕ, ◌+◌, ◌-◌, ◌/◌, ◌%◌, ◌≤◌, ◌<◌, true, Some}
 use Rattle.std.proofs.Common.{ap, ◌∙◌}
 use native.Mathlib.Omega.{arith}
 use Rattle.laws.specs.Bools.{fault_none, none_fault}
@@ -9,7 +9,6 @@ use Rattle.kinds.specs.Sides.{side_byte, good_side}
 use Rattle.kinds.specs.SideLaws.{byte-good, byte_le, good_back, side_back}
 use Rattle.text.specs.Text.{text}
 use Rattle.orders.specs.declared.Order.{Order}
-use Rattle.orders.specs.declared.Held.TheVariants.{Sound}
 use Rattle.orders.specs.Order.{remaining, executed_by, cancelled_by, closed_of, second, third, fourth, order_of, held}
 use Rattle.orders.specs.Soundness.{Passes, passes-held, held-passes}
 
@@ -26,7 +25,7 @@ pub record HeldSound (n0 n1 n2 n3 : ℕ) (o : Order) : Type 0 where
   pub worded : text 4 o.attribution ≡ true
   pub remains : 0 < remaining o
 
-pub held-sound : (n0 n1 n2 n3 : ℕ) (o : Order) → held n0 n1 n2 n3 ≡ Sound o → HeldSound n0 n1 n2 n3 o
+pub held-sound : (n0 n1 n2 n3 : ℕ) (o : Order) → held n0 n1 n2 n3 ≡ Some o → HeldSound n0 n1 n2 n3 o
 unfolding order_of remaining
 held-sound n0 n1 n2 n3 o h =
     let p = (held-passes n0 n1 n2 n3 o h).0 in
@@ -44,7 +43,7 @@ held-sound n0 n1 n2 n3 o h =
     })
 
 -- a slot's numbers are those of the order that it holds
-pub held-numbers : (n0 n1 n2 n3 : ℕ) (o : Order) → held n0 n1 n2 n3 ≡ Sound o
+pub held-numbers : (n0 n1 n2 n3 : ℕ) (o : Order) → held n0 n1 n2 n3 ≡ Some o
     → (o.reference.0 ≡ n0) × (second o ≡ n1) × (third o ≡ n2) × (fourth o ≡ n3)
 unfolding order_of second third fourth
 held-numbers n0 n1 n2 n3 o h =
@@ -66,7 +65,7 @@ pub record Fit (o : Order) : Type 0 where
   pub worded : text 4 o.attribution ≡ true
 
 -- the order that a slot holds
-pub held_fit : (n0 n1 n2 n3 : ℕ) (o : Order) → n3 < 18446744073709551616 → held n0 n1 n2 n3 ≡ Sound o → Fit o
+pub held_fit : (n0 n1 n2 n3 : ℕ) (o : Order) → n3 < 18446744073709551616 → held n0 n1 n2 n3 ≡ Some o → Fit o
 unfolding order_of
 held_fit n0 n1 n2 n3 o b h =
     let s = held-sound n0 n1 n2 n3 o h in
@@ -149,8 +148,8 @@ module _ (o : Order) (f : Fit o) where
       rw (price_back, added_back, executed_back, cancelled_back, locate_back, byte_back, attribution_back)
       (rw (side_back o.side, f.closed))
 
-  pub held_again : held o.reference.0 (second o) (third o) (fourth o) ≡ Sound o
-  held_again = passes-held o.reference.0 (second o) (third o) (fourth o) passes_again ∙ ap Sound order_again
+  pub held_again : held o.reference.0 (second o) (third o) (fourth o) ≡ Some o
+  held_again = passes-held o.reference.0 (second o) (third o) (fourth o) passes_again ∙ ap Some order_again
 
 -- ---- steps
 

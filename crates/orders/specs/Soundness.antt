@@ -1,36 +1,35 @@
 -- What a test of a slot's numbers says of the slot. `Passes` is what `sound` asks, as facts of numbers: a slot that passes holds
 -- its order, and one that does not holds none. Assumes nothing.
-use Rattle.std.specs.Prelude.{◌≡◌, refl, Bool, true, false, cond, ◌&&◌, ℕ, ◌+◌, ◌/◌, ◌%◌, ◌≤◌, ◌<◌}
+use Rattle.std.specs.Prelude.{◌≡◌, refl, Bool, true, false, cond, ◌&&◌, ℕ, ◌+◌, ◌/◌, ◌%◌, ◌≤◌, ◌<◌, Some, None, Ok, Err, Result}
 use Rattle.std.proofs.Common.{arith}
 use Rattle.std.proofs.Math.Dec.{eqb, leb, ltb}
 use borrow.Author.Tests.{le-leb, lt-ltb, eq-eqb, leb-true, leb-false, ltb-true, eqb-true}
 use Rattle.laws.specs.Bools.{fault, and_left, and_right, fault_none, none_fault}
+use Rattle.kinds.specs.declared.TooHigh.{TooHigh}
 use Rattle.kinds.specs.Admission.{maximum, admission}
 use Rattle.kinds.specs.declared.Price.{Price}
-use Rattle.kinds.specs.declared.Admission.TheVariants.{Admitted, TooHigh}
 use Rattle.kinds.specs.Sides.{good_side}
 use Rattle.text.specs.Text.{text}
 use Rattle.orders.specs.declared.Order.{Order}
-use Rattle.orders.specs.declared.Held.TheVariants.{Sound, Unsound}
 use Rattle.orders.specs.Order.{sound, order_of, held}
 
 -- ---- what a number offered as a price came to
 
-pub admitted : (v : ℕ) (p : Price) → Admitted p ≡ admission v → (v ≤ maximum) × (p ≡ record { 0 = v })
+pub admitted : (v : ℕ) (p : Price) → Ok p ≡ admission v → (v ≤ maximum) × (p ≡ record { 0 = v })
 unfolding admission
 admitted v p = go (leb v maximum) refl
   where
-    go : (b : Bool) → leb v maximum ≡ b → Admitted p ≡ cond b (Admitted (record { 0 = v })) TooHigh → (v ≤ maximum) × (p ≡ record { 0 = v })
+    go : (b : Bool) → leb v maximum ≡ b → ◌≡◌ {A = Result Price TooHigh} (Ok p) (cond b (Ok (record { 0 = v })) (Err (record {}))) → (v ≤ maximum) × (p ≡ record { 0 = v })
     go true q e = (leb-true v maximum q, cc)
     go false q e = let z : ◌≡◌ {A = ℕ} 0 1 = cc in absurd (omega arith)
 
-pub not_admitted : (v : ℕ) → TooHigh ≡ admission v → maximum < v
+pub not_admitted : (v : ℕ) (e : TooHigh) → Err e ≡ admission v → maximum < v
 unfolding admission
-not_admitted v = go (leb v maximum) refl
+not_admitted v e = go (leb v maximum) refl
   where
-    go : (b : Bool) → leb v maximum ≡ b → TooHigh ≡ cond b (Admitted (record { 0 = v })) TooHigh → maximum < v
-    go true q e = let z : ◌≡◌ {A = ℕ} 0 1 = cc in absurd (omega arith)
-    go false q e = leb-false v maximum q
+    go : (b : Bool) → leb v maximum ≡ b → ◌≡◌ {A = Result Price TooHigh} (Err e) (cond b (Ok (record { 0 = v })) (Err (record {}))) → maximum < v
+    go true q f = let z : ◌≡◌ {A = ℕ} 0 1 = cc in absurd (omega arith)
+    go false q f = leb-false v maximum q
 
 -- ---- a slot's numbers
 
@@ -73,24 +72,24 @@ module _ (n1 n2 n3 : ℕ) where
       }
 
 -- a slot that passes holds its order
-pub passes-held : (n0 n1 n2 n3 : ℕ) → Passes n1 n2 n3 → held n0 n1 n2 n3 ≡ Sound (order_of n0 n1 n2 n3)
+pub passes-held : (n0 n1 n2 n3 : ℕ) → Passes n1 n2 n3 → held n0 n1 n2 n3 ≡ Some (order_of n0 n1 n2 n3)
 unfolding held
 passes-held n0 n1 n2 n3 p = rw (passes-sound n1 n2 n3 p)
 
 -- one that does not pass holds none
-pub fails_held : (n0 n1 n2 n3 : ℕ) → (Passes n1 n2 n3 → ⊥) → held n0 n1 n2 n3 ≡ Unsound
+pub fails_held : (n0 n1 n2 n3 : ℕ) → (Passes n1 n2 n3 → ⊥) → held n0 n1 n2 n3 ≡ None
 unfolding held
 fails_held n0 n1 n2 n3 f = go (sound n1 n2 n3) refl
   where
-    go : (b : Bool) → sound n1 n2 n3 ≡ b → cond b (Sound (order_of n0 n1 n2 n3)) Unsound ≡ Unsound
+    go : (b : Bool) → sound n1 n2 n3 ≡ b → cond b (Some (order_of n0 n1 n2 n3)) None ≡ None
     go true e = absurd (f (sound-passes n1 n2 n3 e))
     go false e = refl
 
 -- and one that holds an order passes, and the order is its own
-pub held-passes : (n0 n1 n2 n3 : ℕ) (o : Order) → held n0 n1 n2 n3 ≡ Sound o → Passes n1 n2 n3 × (o ≡ order_of n0 n1 n2 n3)
+pub held-passes : (n0 n1 n2 n3 : ℕ) (o : Order) → held n0 n1 n2 n3 ≡ Some o → Passes n1 n2 n3 × (o ≡ order_of n0 n1 n2 n3)
 unfolding held
 held-passes n0 n1 n2 n3 o = go (sound n1 n2 n3) refl
   where
-    go : (b : Bool) → sound n1 n2 n3 ≡ b → cond b (Sound (order_of n0 n1 n2 n3)) Unsound ≡ Sound o → Passes n1 n2 n3 × (o ≡ order_of n0 n1 n2 n3)
+    go : (b : Bool) → sound n1 n2 n3 ≡ b → cond b (Some (order_of n0 n1 n2 n3)) None ≡ Some o → Passes n1 n2 n3 × (o ≡ order_of n0 n1 n2 n3)
     go true e h = (sound-passes n1 n2 n3 e, cc)
     go false e h = let z : ◌≡◌ {A = ℕ} 0 1 = cc in absurd (omega arith)

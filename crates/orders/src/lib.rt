@@ -6,7 +6,7 @@ ghost use Rattle.laws.specs.Bools.{fault};
 ghost use Rattle.text.specs.Text.{text};
 ghost use Rattle.orders.specs.Order.{cancelled_by, closed_of, executed_by, fourth, held, remaining, second, third};
 
-use kinds::{Admission, Locate, Price, Reference, Side};
+use kinds::{Locate, Price, Reference, Side};
 
 #[derive(Clone, Copy)]
 pub struct Order {
@@ -19,13 +19,6 @@ pub struct Order {
     pub locate: Locate,
     pub side: Side,
     pub attribution: u32,
-}
-
-// What a live slot holds: a sound order, or none.
-#[derive(Drop)]
-pub enum Held {
-    Sound(Order),
-    Unsound,
 }
 
 impl Order {
@@ -97,8 +90,8 @@ fn attribution_fault(a: u32) -> u64
     if a == 0x4e534451 { 0 } else { text::text4(a) }
 }
 
-// What a live slot with these numbers holds.
-pub fn hold(n0: u64, n1: u64, n2: u64, n3: u64) -> Held
+// The order that a live slot with these numbers holds, where it is sound. (Four numbers, as they are read, and no array.)
+pub fn hold(n0: u64, n1: u64, n2: u64, n3: u64) -> Option<Order>
     ensures { result ≡ held n0 n1 n2 n3 }
 {
     let added = n1 % 4294967296;
@@ -107,26 +100,26 @@ pub fn hold(n0: u64, n1: u64, n2: u64, n3: u64) -> Held
     let locate = n3 / 281474976710656;
     let byte = n3 / 1099511627776 % 256;
     let attribution = (n3 / 256 % 4294967296) as u32;
-    let Admission::Admitted(price) = Price::admit((n1 / 4294967296) as u32) else {
-        return Held::Unsound;
+    let Ok(price) = Price::try_from((n1 / 4294967296) as u32) else {
+        return None;
     };
     if locate == 0 {
-        return Held::Unsound;
+        return None;
     }
     let sided = Side::good(byte);
     if !sided {
-        return Held::Unsound;
+        return None;
     }
     if n3 % 256 != 0 {
-        return Held::Unsound;
+        return None;
     }
     if added <= executed + cancelled {
-        return Held::Unsound;
+        return None;
     }
     if attribution_fault(attribution) != 0 {
-        return Held::Unsound;
+        return None;
     }
-    Held::Sound(Order {
+    Some(Order {
         reference: Reference(n0),
         price,
         added: added as u32,

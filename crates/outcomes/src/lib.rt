@@ -10,73 +10,58 @@ ghost use Rattle.outcomes.specs.Outcomes.{figured, order_row, row_of};
 
 use apply::Outcome;
 use decide::Figures;
+use refusals::Refusal;
+
+// The five figures of an order.
+fn five(f: Figures) -> [u64; 5]
+    ensures { result ≡ figured f [] }
+{
+    [
+        u64::from(f.locate.0),
+        f.side.byte(),
+        u64::from(f.price.0),
+        u64::from(f.shares),
+        u64::from(f.remains),
+    ]
+}
 
 // The figures of one order.
 fn one(f: Figures, figures: &mut [u64; 10])
     ensures { figures.new ≡ figured f (padded 5 []) }
 {
-    let locate = f.locate;
-    let side = f.side;
-    let price = f.price;
-    *figures = [
-        locate.0 as u64,
-        side.byte(),
-        price.0 as u64,
-        f.shares as u64,
-        f.remains as u64,
-        0,
-        0,
-        0,
-        0,
-        0,
-    ];
+    *figures = [0; 10];
+    figures[..5].copy_from_slice(&five(f));
 }
 
 // The figures of an order that is closed and of the one that starts.
 fn two(f: Figures, g: Figures, figures: &mut [u64; 10])
     ensures { figures.new ≡ figured f (figured g []) }
 {
-    let locate = f.locate;
-    let side = f.side;
-    let price = f.price;
-    let next_locate = g.locate;
-    let next_side = g.side;
-    let next_price = g.price;
-    *figures = [
-        locate.0 as u64,
-        side.byte(),
-        price.0 as u64,
-        f.shares as u64,
-        f.remains as u64,
-        next_locate.0 as u64,
-        next_side.byte(),
-        next_price.0 as u64,
-        g.shares as u64,
-        g.remains as u64,
-    ];
+    figures[..5].copy_from_slice(&five(f));
+    figures[5..].copy_from_slice(&five(g));
 }
 
 // The number of an outcome, with its message's numbers left in out and its orders' in figures.
-pub fn write(o: Outcome, out: &mut [u64; 18], figures: &mut [u64; 10]) -> u8
+pub fn write(o: Result<Outcome, Refusal>, out: &mut [u64; 18], figures: &mut [u64; 10]) -> u8
     ensures { (result ≡ number_of o) × (out.new ≡ row_of o) × (figures.new ≡ order_row o) }
 {
     match o {
-        Outcome::Refused(refusal) => {
+        Err(refusal) => {
             *out = [0; 18];
             *figures = [0; 10];
-            refusal.number
+            u8::from(refusal)
         }
-        Outcome::Accepted(m) => {
+        Ok(Outcome::Accepted(m)) => {
             numbers::message(m, out);
             *figures = [0; 10];
             0
         }
-        Outcome::Moved(m, f) => {
+        Ok(Outcome::Moved(m, f)) => {
             numbers::message(m, out);
             one(f, figures);
             0
         }
-        Outcome::Replaced(m, f, g) => {
+        Ok(Outcome::Replaced(m, f, g)) => {
             numbers::message(m, out);
             two(f, g, figures);
             0

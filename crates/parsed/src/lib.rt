@@ -1,36 +1,32 @@
-// A message read but not yet judged: what its fields hold, and their faults, added up. It knows no layout.
+// The judgement of a message that is read but not yet judged: what its fields hold, with their faults, added up. It knows no layout.
 #![tactic(auto)]
 
 ghost use Rattle.std.specs.Prelude.{◌≡◌};
 ghost use Rattle.parsed.specs.Parsed.{answer_of};
 
-use messages::{Answer, Message};
-use refusals::{FIELD, PRICE, Refusal, SHARES, TIME};
+use checked::Checked;
+use messages::Message;
+use refusals::Refusal;
 
-#[derive(Drop)]
-pub struct Parsed {
-    pub faults: u64,
-    pub message: Message,
-}
-
-// The message where nothing is wrong with it, else the refusal that its faults show.
-pub fn judge(p: Parsed) -> Answer
+// The message where nothing is wrong with it, else the refusal that its faults show. (Tests in a row: a match on ranges compiles to a
+// test for 1 before that for 0, which most messages then take too.)
+#[tactic(auto, unfolding(crate::specs::Parsed::answer_of))]
+pub fn judge(p: Checked<Message>) -> Result<Message, Refusal>
     ensures { result ≡ answer_of p }
 {
     let w = p.faults;
-    let m = p.message;
     if w == 0 {
-        return Answer::Good(m);
+        return Ok(p.value);
     }
     if 512 <= w {
-        return Answer::Refused(Refusal::of(TIME));
+        return Err(Refusal::Time);
     }
     if 16 <= w {
-        return Answer::Refused(Refusal::of(FIELD));
+        return Err(Refusal::Field);
     }
     if 2 <= w {
-        Answer::Refused(Refusal::of(PRICE))
+        Err(Refusal::Price)
     } else {
-        Answer::Refused(Refusal::of(SHARES))
+        Err(Refusal::Shares)
     }
 }

@@ -1,13 +1,15 @@
 -- Each number is given exactly when 01 says so: the answer's number says one thing of the bytes (`says`), and what it says of
 -- them no other number says (`said`). Assumes nothing.
-use Rattle.std.specs.Prelude.{◌≡◌, refl, ◌↔◌, Bool, true, false, cond, List, ℕ, ◌≤◌, eqb, length}
+use Rattle.std.specs.Prelude.{◌≡◌, refl, ◌↔◌, Bool, true, false, cond, List, ℕ, ◌≤◌, eqb, length, Ok}
 use Rattle.std.proofs.Common.{sym, ap, ◌∙◌, inl, inr, arith, eqb-true}
 use Rattle.std.proofs.Math.Decide.{ℕ_discrete}
+use Rattle.std.proofs.lemmas.Bool.{eqb-false}
+use Rattle.refusals.specs.Refusals.{TIME, FIELD, PRICE, SHARES, refusal_number, refusal_of}
+use Rattle.layout.specs.Kind.{Cell}
 use Rattle.layout.specs.Layout.{cells_of, length_of}
 use Rattle.messages.specs.declared.Message.{Message}
-use Rattle.messages.specs.declared.Answer.TheVariants.{Good}
 use Rattle.messages.specs.Typed.{message}
-use Rattle.wellformed.specs.WellFormed.{refusal, values}
+use Rattle.wellformed.specs.WellFormed.{faulty, refusal, values}
 use Rattle.reader.specs.Read.{no_message, type_of, judged_as, answer}
 use Rattle.reader.specs.ReadLaws.{no_bytes, unknown_type, wrong-length, right_length}
 use Rattle.numbers.specs.Shown.{answer_number}
@@ -21,13 +23,29 @@ data Says (s : List ℕ) (n : ℕ) : Type 0 where
   strange : n ≡ 2 → WrongType s → Says s n
   judged : RightLength s → FoundFault s (cells_of (type_of s)) n → Says s n
 
+abbrev first_of : Bool → Bool → Bool → Bool → ℕ
+first_of t f p n = cond t TIME (cond f FIELD (cond p PRICE (cond n SHARES 0)))
+
+-- the fields' refusal is one that has a name
+refusal_named : (s : List ℕ) (cs : List Cell) → (refusal s cs ≡ 0 → ⊥) → refusal_number (refusal_of (refusal s cs)) ≡ refusal s cs
+unfolding refusal
+refusal_named s cs = go (faulty TIME s cs) (faulty FIELD s cs) (faulty PRICE s cs) (faulty SHARES s cs)
+  where
+    go : (t f p n : Bool) → (first_of t f p n ≡ 0 → ⊥) → refusal_number (refusal_of (first_of t f p n)) ≡ first_of t f p n
+    go true f p n some = refl
+    go false true p n some = refl
+    go false false true n some = refl
+    go false false false true some = refl
+    go false false false false some = absurd (some refl)
+
 number-judged : (t : ℕ) (s : List ℕ) → answer_number (judged_as t s) ≡ refusal s (cells_of t)
 unfolding judged_as
-number-judged t s = go (message t (values s (cells_of t))) (refusal s (cells_of t)) (eqb (refusal s (cells_of t)) 0) refl
+number-judged t s = go (message t (values s (cells_of t))) (refusal s (cells_of t)) (refusal_named s (cells_of t)) (eqb (refusal s (cells_of t)) 0) refl
   where
-    go : (m : Message) (r : ℕ) (b : Bool) → eqb r 0 ≡ b → answer_number (cond b (Good m) (no_message r)) ≡ r
-    go m r true e = sym (eqb-true r 0 e)
-    go m r false e = refl
+    go : (m : Message) (r : ℕ) → ((r ≡ 0 → ⊥) → refusal_number (refusal_of r) ≡ r) → (b : Bool) → eqb r 0 ≡ b
+        → answer_number (cond b (Ok m) (no_message r)) ≡ r
+    go m r named true e = sym (eqb-true r 0 e)
+    go m r named false e = named (eqb-false r 0 e)
 
 -- of bytes with the type's length, the number is the fields' refusal
 number_sized : (s : List ℕ) → RightLength s → answer_number (answer s) ≡ refusal s (cells_of (type_of s))

@@ -1,6 +1,6 @@
 -- An accepted message's numbers are its type byte and the numbers of its fields: the typed message gives each number back, type by
 -- type. Assumes nothing.
-use Rattle.std.specs.Prelude.{◌≡◌, refl, Bool, true, false, cond, ◌||◌, ℕ, eqb}
+use Rattle.std.specs.Prelude.{◌≡◌, refl, Bool, true, false, cond, ◌||◌, ℕ, eqb, Ok}
 use Rattle.std.proofs.Common.{sym, ap, ◌∙◌, eqb-true, eq-eqb}
 use mathlib.Core.List.Memᴰ.{head as here}
 use mathlib.Core.List.Memᴰ.{tail as there}
@@ -12,7 +12,6 @@ use Rattle.layout.specs.Kind.Kind.{side}
 use Rattle.layout.specs.Layout.{cells_of}
 use Rattle.layout.specs.Chained.{printed}
 use Rattle.messages.specs.declared.Message.{Message}
-use Rattle.messages.specs.declared.Answer.TheVariants.{Good}
 use Rattle.messages.specs.Numbers.{letter_of, values_of, numbers}
 use Rattle.messages.specs.Typed.{message}
 use Rattle.wellformed.specs.WellFormed.{value_at, refusal, values}
@@ -37,7 +36,7 @@ side_byte_lem v = go (eqb v 66) refl
 
 -- the message that well-formed fields of the type t make has the letter t and those fields
 Back : List ℕ → ℕ → Type 0
-Back s t = AllGood s (cells_of t) → numbers (Good (message t (values s (cells_of t)))) ≡ 0 ∷ t ∷ values s (cells_of t)
+Back s t = AllGood s (cells_of t) → numbers (Ok (message t (values s (cells_of t)))) ≡ 0 ∷ t ∷ values s (cells_of t)
 
 -- in the order of 01's table: A, F and P have a side as their fifth field, and nothing else is changed on the way
 back_each : (s : List ℕ) → Each (Back s) printed
@@ -55,14 +54,14 @@ back_each s =
 
 -- ---- the two kinds of answer
 
-typed_answer : (s : List ℕ) → Accepted s → answer s ≡ Good (message (type_of s) (values s (cells_of (type_of s))))
+typed_answer : (s : List ℕ) → Accepted s → answer s ≡ Ok (message (type_of s) (values s (cells_of (type_of s))))
 unfolding judged_as
 typed_answer s w =
     let cs = cells_of (type_of s) in
     let e : refusal s cs ≡ 0 = found_unique (refusal_found s cs) (no_fault refl w.1) in
     right_length s w.0.known w.0.sized ∙ rw (eq-eqb (refusal s cs) 0 e)
 
-row_of_numbers : (m : Message) (t : ℕ) (vs : List ℕ) → numbers (Good m) ≡ 0 ∷ t ∷ vs → answer_row (Good m) ≡ padded 18 (t ∷ vs)
+row_of_numbers : (m : Message) (t : ℕ) (vs : List ℕ) → numbers (Ok m) ≡ 0 ∷ t ∷ vs → answer_row (Ok m) ≡ padded 18 (t ∷ vs)
 row_of_numbers m t vs e = let q : letter_of m ∷ values_of m ≡ t ∷ vs = cc in ap (padded 18) q
 
 -- where the number is 0, the answer is the message of the type's fields, and its numbers are theirs

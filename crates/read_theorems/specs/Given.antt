@@ -1,5 +1,5 @@
 -- Each of the numbers 0 to 6 has bytes that earn it, and what a reading must meet. Assumes nothing.
-use Rattle.std.specs.Prelude.{◌≡◌, refl, Bool, true, ◌&&◌, List, [], ◌∷◌, ◌++◌, ℕ, ltb, replicate}
+use Rattle.std.specs.Prelude.{◌≡◌, refl, Bool, true, ◌&&◌, List, [], ◌∷◌, ◌++◌, ℕ, ltb, replicate, Result}
 use Rattle.laws.specs.Facts.{FactsBelow}
 use Rattle.laws.specs.Facts.FactsBelow.{no_facts, ◌▸◌}
 use Rattle.laws.specs.Field.{field}
@@ -7,10 +7,11 @@ use Rattle.kinds.specs.Admission.{maximum}
 use Rattle.kinds.specs.Sides.{good_side}
 use Rattle.text.specs.Text.{letter, letters, text}
 use Rattle.layout.specs.Layout.{length_of}
-use Rattle.messages.specs.declared.Answer.{Answer}
 use Rattle.wellformed.specs.WellFormed.{good_time, good_shares, good_price, good_printable, refusal}
 use Rattle.reader.specs.Read.{judged_as, answer}
 use Rattle.numbers.specs.Shown.{answer_number}
+use Rattle.messages.specs.declared.Message.{Message}
+use Rattle.refusals.specs.declared.Refusal.{Refusal}
 
 -- every number of the list is a byte's
 abbrev pub bytes_only : List ℕ → Bool
@@ -37,5 +38,5 @@ examples =
     ▸ record { bytes = 88 ∷ replicate 22 0; are_bytes = refl; given = refl }
 
 -- f reads bytes as the contract of `read` asks
-abbrev pub Meets : (List ℕ → Answer) → Type 0
+abbrev pub Meets : (List ℕ → Result Message Refusal) → Type 0
 Meets f = (s : List ℕ) → bytes_only s ≡ true → f s ≡ answer s

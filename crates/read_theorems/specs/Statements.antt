@@ -1,19 +1,19 @@
 -- When each answer to a message is given, in 01's words ('When the book says no', 0 to 6): this is what Exactly.antt proves of
 -- the answer to any bytes. A field is a cell of the table of fields, and `good` tests what it must hold. Assumes nothing.
-use Rattle.std.specs.Prelude.{◌≡◌, ◌↔◌, ◌⊎◌, true, false, ℕ, ◌≤◌, ◌<◌, length, replicate}
+use Rattle.std.specs.Prelude.{◌≡◌, ◌↔◌, ◌⊎◌, true, false, ℕ, ◌≤◌, ◌<◌, length, replicate, Result, Ok}
 use mathlib.Core.List.{List, [], ◌∷◌, Memᴰ as Among}
 use Rattle.text.specs.TextMeaning.{LettersThenSpaces}
 use Rattle.layout.specs.Kind.{Kind, Cell}
 use Rattle.layout.specs.Kind.Kind.{number, time, shares, price4, price8, texts, side, printable, code, alpha, reserved}
 use Rattle.layout.specs.Layout.{cells_of, length_of}
 use Rattle.layout.specs.Chained.{Printed, printed}
-use Rattle.messages.specs.declared.Answer.{Answer}
-use Rattle.messages.specs.declared.Answer.TheVariants.{Good}
 use Rattle.messages.specs.Numbers.{numbers}
 use Rattle.messages.specs.Typed.{message}
 use Rattle.wellformed.specs.WellFormed.{good, earns, value_at, values}
 use Rattle.reader.specs.Read.{type_of, answer}
 use Rattle.numbers.specs.Shown.{padded, answer_number as number_of, answer_row}
+use Rattle.messages.specs.declared.Message.{Message}
+use Rattle.refusals.specs.declared.Refusal.{Refusal}
 
 -- t is one of the 23 letters that 01 prints; Types.antt proves that it is one exactly where it has a length
 pub record IsPrinted (t : ℕ) : Type 0 where
@@ -90,11 +90,11 @@ pub record ReadExactly (s : List ℕ) : Type 0 where
 
 -- the answer to bytes that are accepted: the typed message, and as numbers the type byte and every field of the table
 pub record Fields (s : List ℕ) : Type 0 where
-  pub typed : answer s ≡ Good (message (type_of s) (values s (cells_of (type_of s))))
+  pub typed : answer s ≡ Ok (message (type_of s) (values s (cells_of (type_of s))))
   pub listed : numbers (answer s) ≡ 0 ∷ type_of s ∷ values s (cells_of (type_of s))
   pub in_a_row : answer_row (answer s) ≡ padded 18 (type_of s ∷ values s (cells_of (type_of s)))
 
 -- 'A refusal returns its number with all other numbers 0'
-pub record Alone (a : Answer) : Type 0 where
+pub record Alone (a : Result Message Refusal) : Type 0 where
   pub listed : numbers a ≡ number_of a ∷ []
   pub in_a_row : answer_row a ≡ replicate 18 0

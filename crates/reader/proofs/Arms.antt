@@ -1,5 +1,6 @@
--- The arms of the reader, for any type: the length and the answer of an arm with the letter k, and that a byte which is no arm's
+-- The arms of the reader, for any type: the answer of an arm with the letter k, and that a byte which is no arm's
 -- letter is no type, by one computed test over the table. Assumes nothing.
+use Rattle.std.specs.Prelude.{Result}
 use mathlib.Core.Path.{◌≡◌, refl, sym, ap, ◌∙◌}
 use mathlib.Core.Bool.{Bool, true, false, ◌&&◌, ◌||◌, false≢true}
 use mathlib.Core.List.{List, [], ◌∷◌}
@@ -8,22 +9,16 @@ use borrow.Author.Tests.{eqb-true, ne_eqb}
 use lib.Dec.{eqb}
 use Rattle.laws.specs.Bools.{and_left, and_right}
 use Rattle.layout.specs.Layout.{Row, rows, cells_in, length_of}
-use Rattle.messages.specs.declared.Answer.{Answer}
-use Rattle.parsed.specs.declared.Parsed.{Parsed}
+use Rattle.messages.specs.declared.Message.{Message}
+use Rattle.checked.specs.declared.Checked.{Checked}
 use Rattle.parsed.specs.Parsed.{answer_of, IsParsed}
 use Rattle.reader.specs.Read.{judged_as}
 use Rattle.reader.proofs.Whole.{whole}
-
--- the length of the type
-pub has : {t k n : ℕ} → length_of k ≡ n → t ≡ k → n ≡ length_of t
-has l e = sym l ∙ ap length_of (sym e)
-
--- bytes of the type's length have that many bytes
-pub long : {t k n m : ℕ} → length_of k ≡ n → t ≡ k → m ≡ length_of t → m ≡ n
-long l e h = h ∙ ap length_of e ∙ l
+use Rattle.messages.specs.declared.Message.{Message}
+use Rattle.refusals.specs.declared.Refusal.{Refusal}
 
 -- what was read as the type and judged is the answer
-pub right : {t k : ℕ} {s : List ℕ} {p : Parsed} {r : Answer} → t ≡ k → IsParsed k s p → r ≡ answer_of p → r ≡ judged_as t s
+pub right : {t k : ℕ} {s : List ℕ} {p : Checked Message} {r : Result Message Refusal} → t ≡ k → IsParsed k s p → r ≡ answer_of p → r ≡ judged_as t s
 right {s = s} e h j = j ∙ whole h ∙ ap (λ (x : ℕ). judged_as x s) (sym e)
 
 -- the arms' letters, the last arm first

@@ -3,19 +3,14 @@
 
 ghost use Rattle.std.specs.Prelude.{◌≡◌, ◌<◌, length};
 ghost use Rattle.layout.specs.Layout.{length_of};
-ghost use Rattle.reader.specs.Read.{answer, judged_as, no_message};
+ghost use Rattle.reader.specs.Read.{answer, judged_as};
 
-use messages::Answer;
+use messages::Message;
 use parsed::judge;
-use refusals::{LENGTH, Refusal, TYPE};
+use refusals::Refusal;
 
-fn refuse(n: u8) -> Answer
-    ensures { result ≡ no_message n }
-{
-    Answer::Refused(Refusal::of(n))
-}
-
-// How many bytes the messages of a type have; 0 for a byte that is no type.
+// How many bytes the messages of a type have; 0 for a byte that is no type, as the table of fields says it (`length_of`).
+#[tactic(auto, unfolding(layout::specs::Layout::length_of))]
 fn length_of(t: u8) -> usize
     ensures { result ≡ length_of t }
 {
@@ -47,8 +42,9 @@ fn length_of(t: u8) -> usize
     }
 }
 
-// The answer to bytes of a type and of its length. (The types of a busy day come first.)
-fn judged(s: &[u8], t: u8) -> Answer
+// The answer to bytes of a type and of its length. (The types of a busy day come first; a table of functions would be an indirect call.)
+#[tactic(auto, using(crate::proofs::Arms::right), unfolding(layout::specs::Layout::length_of))]
+fn judged(s: &[u8], t: u8) -> Result<Message, Refusal>
     requires { (length s.now ≡ length_of t) × (0 < length_of t) }
     ensures { result ≡ judged_as t s.now }
 {
@@ -76,24 +72,24 @@ fn judged(s: &[u8], t: u8) -> Answer
         b'I' => judge(read_auctions::net_order_imbalance(s)),
         b'N' => judge(read_auctions::retail_interest(s)),
         b'O' => judge(read_auctions::direct_listing(s)),
-        _ => refuse(TYPE),
+        _ => Err(Refusal::Type),
     }
 }
 
 // The typed fields of the message that the bytes are, or the refusal that they earn.
-pub fn read(s: &[u8]) -> Answer
+pub fn read(s: &[u8]) -> Result<Message, Refusal>
     ensures { result ≡ answer s.now }
 {
     if s.len() == 0 {
-        return refuse(LENGTH);
+        return Err(Refusal::Length);
     }
     let t = s[0];
     let n = length_of(t);
     if n == 0 {
-        return refuse(TYPE);
+        return Err(Refusal::Type);
     }
     if s.len() != n {
-        return refuse(LENGTH);
+        return Err(Refusal::Length);
     }
     judged(s, t)
 }

@@ -4,9 +4,9 @@ use mathlib.Core.Path.{◌≡◌, refl, sym, ap, ◌∙◌}
 use mathlib.Core.List.{List, [], ◌∷◌, ◌++◌, append_assoc}
 use Prim.Native.Nat.{ℕ, ◌+◌, ◌-◌, ◌≤◌, ◌<◌}
 use native.Mathlib.Omega.{arith}
-use lib.ListN.{length, take, drop, set, length-append}
-use lib.Seq.{length-take-le, take-length, take_at, paste}
-use borrow.Rule.Slice.PartMut.{mid_of, post_of, put_mid, mid_len, same_len_mid}
+use lib.ListN.{length, take, set, length-append}
+use lib.Seq.{length-take-le, take-length, take_at}
+use borrow.Rule.Slice.PartMut.{Post-is, mid_of, post_of, put_mid, mid_len, same_len_mid}
 use Rattle.store.specs.Store.{big_endian}
 use Rattle.store.specs.StoreLaws.{length-big_endian}
 use Rattle.records.specs.Append.{appended, reach}
@@ -49,12 +49,6 @@ pub unfit : (out : List ℕ) (at : ℕ) (row : List ℕ) → length out < at + l
 unfit out at row h = (sym (reach_over out at row h), sym (appended_over out at row h))
 
 -- where it fits, the row copied whole is the row appended
-pub fit : (out : List ℕ) (at : ℕ) (row now : List ℕ) → at + length row ≤ length out → now ≡ paste out at row (length row)
-    → (at + length row ≡ reach out at row) × (now ≡ appended out at row)
-fit out at row now h e = (
-  sym (reach_fits out at row h),
-  e
-      ∙ ap (λ (r : List ℕ). take at out ++ r ++ drop (at + length row) out) (take-length row)
-      ∙ append_assoc (take at out) row (drop (at + length row) out)
-      ∙ sym (appended_fits out at row h),
-)
+pub fit : (out : List ℕ) (at : ℕ) (row now : List ℕ) → at + length row ≤ length out → now ≡ row
+    → (at + length row ≡ reach out at row) × (put_mid at (at + length row - at) out now ≡ appended out at row)
+fit out at row now h e = rw (reach_fits out at row h, appended_fits out at row h, e, Post-is at (at + length row) out (omega arith)) (refl, refl)

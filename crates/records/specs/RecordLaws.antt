@@ -1,7 +1,7 @@
 -- What follows of the records: the length of each kind, whatever it holds; and what appending comes to, as the record fits or not.
 -- Assumes nothing.
 use Rattle.std.specs.Prelude.{◌≡◌, List, ◌++◌, ℕ, ◌+◌, ◌≤◌, ◌<◌, take, drop}
-use Rattle.std.proofs.Common.{le-leb, length-append}
+use Rattle.std.proofs.Common.{sym, ◌∙◌, arith, append_assoc, le-leb, length-append, length-drop, length-take-le, take_at, drop_at}
 use Rattle.std.proofs.lemmas.Bool.{lt-leb}
 use Rattle.std.proofs.Math.ListN.{length}
 use Rattle.store.specs.StoreLaws.{length-big_endian}
@@ -25,6 +25,22 @@ module _ (out : List ℕ) (at : ℕ) (row : List ℕ) (fits : at + length row �
   pub reach_fits : reach out at row ≡ at + length row
   unfolding reach
   reach_fits = simp (le-leb (at + length row) (length out) fits)
+
+  length-front : length (take at out ++ row) ≡ at + length row
+  length-front = rw (length-append, length-take-le at out (omega arith))
+
+  split : appended out at row ≡ (take at out ++ row) ++ drop (at + length row) out
+  split = appended_fits ∙ sym (append_assoc (take at out) row (drop (at + length row) out))
+
+  -- it stands behind the bytes before it, and the rest is as it was
+  pub length-appended : length (appended out at row) ≡ length out
+  length-appended = rw (split, length-append, length-front, length-drop) (omega arith)
+
+  pub take-appended : take (at + length row) (appended out at row) ≡ take at out ++ row
+  take-appended = rw split (take_at (take at out ++ row) (drop (at + length row) out) (at + length row) length-front)
+
+  pub drop-appended : drop (at + length row) (appended out at row) ≡ drop (at + length row) out
+  drop-appended = rw split (drop_at (take at out ++ row) (drop (at + length row) out) (at + length row) length-front)
 
 -- and one that does not
 module _ (out : List ℕ) (at : ℕ) (row : List ℕ) (over : length out < at + length row) where

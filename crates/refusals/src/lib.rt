@@ -1,48 +1,33 @@
-// The refusals of 01 by name, and the one place where a refusal is made. It knows nothing of what is refused.
+// The refusals of 01, each with its number there. It knows nothing of what is refused.
 #![tactic(auto)]
 
 ghost use Rattle.std.specs.Prelude.{◌≡◌};
-ghost use Rattle.refusals.specs.Refusals.{refusal_of};
+ghost use Rattle.refusals.specs.Refusals.{refusal_number};
 
-pub const LENGTH: u8 = 1;
-
-pub const TYPE: u8 = 2;
-
-pub const TIME: u8 = 3;
-
-pub const FIELD: u8 = 4;
-
-pub const PRICE: u8 = 5;
-
-pub const SHARES: u8 = 6;
-
-pub const STOCK: u8 = 7;
-
-pub const CONFLICT: u8 = 8;
-
-pub const DUPLICATE: u8 = 9;
-
-pub const NO_ORDER: u8 = 10;
-
-pub const OVER: u8 = 11;
-
-pub const FULL: u8 = 12;
-
-pub const BOOK: u8 = 13;
-
-pub const SHAPE: u8 = 14;
-
-// Why a call is refused: the number that 01 gives the refusal. Callers hand it on whole.
-#[derive(Clone, Copy)]
-pub struct Refusal {
-    pub number: u8,
+// Why a call is refused. Callers hand it on whole.
+#[derive(Clone, Copy, PartialEq, Eq)]
+pub enum Refusal {
+    Length = 1,
+    Type = 2,
+    Time = 3,
+    Field = 4,
+    Price = 5,
+    Shares = 6,
+    Stock = 7,
+    Conflict = 8,
+    Duplicate = 9,
+    NoOrder = 10,
+    Over = 11,
+    Full = 12,
+    Book = 13,
+    Shape = 14,
 }
 
-impl Refusal {
-    // The refusal with a number of 01.
-    pub fn of(n: u8) -> Refusal
-        ensures { result ≡ refusal_of n }
-    {
-        Refusal { number: n }
+// The number that 01 gives it.
+impl From<Refusal> for u8 {
+    ghost from_gives = { λ r n. n ≡ refusal_number r };
+
+    fn from(r: Refusal) -> u8 {
+        r as u8
     }
 }

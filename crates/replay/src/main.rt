@@ -9,25 +9,29 @@ use std::io::{ErrorKind, Read, Write};
 // How many locates the directory has, 0 among them.
 const LOCATES: u16 = 2048;
 
-// What a read came to.
-#[derive(Clone, Copy)]
-enum Got {
-    // So many bytes are held with it.
-    Held(usize),
-    End,
-    Failed,
+// How many bytes of records are held: there is room for a level's, so that each buffer of levels gets on.
+const OUTPUT: usize = 65536;
+
+// What the program stops at.
+#[derive(Drop)]
+enum Failure {
+    Input(io::Error),
+    Output(io::Error),
 }
 
-// Where the program stands after a turn: so many bytes are held, with the counts so far.
+// Where the day stands: so many bytes are held that are not used yet, and the counts so far. (Buffers of fixed length, since nothing is allocated.)
 #[derive(Clone, Copy)]
-enum Turn {
-    More(usize, Tally),
-    End(usize, Tally),
-    Stopped,
+struct Day {
+    held: usize,
+    tally: Tally,
 }
 
 // Tells on standard error what failed, and why in the system's words. std writes the error's number behind them; it is left out.
-fn fail(rt: &impl Eprint, what: &str, error: io::Error) {
+fn tell(rt: &impl Eprint, failure: Failure) {
+    let (what, error) = match failure {
+        Failure::Input(error) => ("standard input", error),
+        Failure::Output(error) => ("standard output", error),
+    };
     let mut text = [0u8; 256];
     let mut room: &mut [u8] = &mut text;
     let _ = write!(room, "{error}");
@@ -39,140 +43,104 @@ fn fail(rt: &impl Eprint, what: &str, error: io::Error) {
     let _ = eprintln!(rt; "{what}: {words}");
 }
 
-// Writes records; false where that fails, which is told.
-fn write(rt: &(impl Print + Eprint), records: &[u8]) -> bool {
-    match rt.write_all(records) {
-        Ok(()) => true,
-        Err(error) => {
-            fail(rt, "standard output", error);
-            false
-        }
+fn write(rt: &impl Print, records: &[u8]) -> Result<(), Failure> {
+    rt.write_all(records).map_err(Failure::Output)
+}
+
+// Reads behind the bytes that are held, which never pass the buffer's end, and answers how many are held then; none at the end of the
+// input. A call that a signal interrupts is no failure: nothing more is held.
+fn read_more(rt: &impl Input, input: &mut [u8], held: usize) -> Result<Option<usize>, Failure> {
+    let Some(room) = input.get_mut(held..) else {
+        return Ok(None);
+    };
+    match rt.reader().read(room) {
+        Ok(0) => Ok(None),
+        Ok(got) => Ok(Some(held + got)),
+        Err(error) if error.kind() == ErrorKind::Interrupted => Ok(Some(held)),
+        Err(error) => Err(Failure::Input(error)),
     }
 }
 
-// Reads behind the bytes that are held. A call that a signal interrupts is no failure: nothing more is held.
-fn read_more(rt: &(impl Input + Eprint), input: &mut [u8], held: usize) -> Got {
-    if held > input.len() {
-        return Got::Failed;
-    }
-    match rt.reader().read(&mut input[held..]) {
-        Ok(0) => Got::End,
-        Ok(got) => Got::Held(held + got),
-        Err(error) if error.kind() == ErrorKind::Interrupted => Got::Held(held),
-        Err(error) => {
-            fail(rt, "standard input", error);
-            Got::Failed
-        }
-    }
-}
-
-// Applies the whole blocks that are held and writes what is told of them; where there is none it reads.
-fn take_turn(
-    rt: &(impl Input + Print + Eprint),
-    input: &mut [u8],
-    held: usize,
-    directory: &mut [u64],
-    book: &mut [u64],
-    tally: Tally,
-    output: &mut [u8],
-) -> Turn {
-    let fed = feed::feed(carry::front(input, held), directory, book, tally, output);
-    let counts = fed.tally;
-    let is_written = write(rt, carry::front(output, fed.written));
-    if !is_written {
-        return Turn::Stopped;
-    }
-    let left = carry::keep(input, fed.at, held);
-    if fed.at > 0 {
-        return Turn::More(left, counts);
-    }
-    match read_more(rt, input, left) {
-        Got::Held(n) => Turn::More(n, counts),
-        Got::End => Turn::End(left, counts),
-        Got::Failed => Turn::Stopped,
-    }
-}
-
-// Turn after turn to the end of the input. A proved loop has to end, and nothing says that the input does: so turns are counted,
-// up to a number that no run uses up.
+// Applies the whole blocks that are held and writes what is told of them, and reads where there is none, to the end of the input. A
+// proved loop has to end, and nothing says that the input does: so turns are counted, up to a number that no run uses up.
 fn apply_all(
-    rt: &(impl Input + Print + Eprint),
+    rt: &(impl Input + Print),
     input: &mut [u8],
     directory: &mut [u64],
     book: &mut [u64],
     output: &mut [u8],
-) -> Turn {
-    let mut day = Turn::More(
-        0,
-        Tally {
+) -> Result<Day, Failure> {
+    let mut day = Day {
+        held: 0,
+        tally: Tally {
             messages: 0,
             refused: 0,
         },
-    );
+    };
     for _ in 0..u64::MAX {
-        let Turn::More(held, tally) = day else {
-            break;
+        let fed = feed::feed(
+            carry::front(input, day.held),
+            directory,
+            book,
+            day.tally,
+            output,
+        );
+        write(rt, carry::front(output, fed.written))?;
+        day = Day {
+            held: carry::keep(input, fed.at, day.held),
+            tally: fed.tally,
         };
-        day = take_turn(rt, input, held, directory, book, tally, output);
+        if fed.at == 0 {
+            let Some(held) = read_more(rt, input, day.held)? else {
+                break;
+            };
+            day.held = held;
+        }
     }
-    day
+    Ok(day)
 }
 
-// Writes all levels, a buffer at a time; false where that fails.
-fn write_levels(rt: &(impl Print + Eprint), book: &[u64], output: &mut [u8]) -> bool {
+// Writes all levels, a buffer at a time.
+fn write_levels(rt: &impl Print, book: &[u64], output: &mut [u8; OUTPUT]) -> Result<(), Failure> {
     let end = ladders::first_of(LOCATES);
     let mut rung = ladders::first_of(1);
-    let mut is_written = true;
-    for _ in 0..u64::MAX {
-        if rung >= end {
-            break;
-        }
-        if !is_written {
-            break;
-        }
+    while rung < end {
         let filled = ladders::fill(book, rung, LOCATES, output);
-        is_written = write(rt, carry::front(output, filled.written));
+        write(rt, carry::front(output, filled.written))?;
         rung = filled.rung;
     }
-    is_written
+    Ok(())
 }
 
-fn write_cut(rt: &(impl Print + Eprint), cut: &[u8; 10], n: usize) -> bool {
-    write(rt, carry::front(cut, n))
-}
-
-fn write_tally(rt: &(impl Print + Eprint), last: &[u8; 17]) -> bool {
-    write(rt, last)
-}
-
-// The end of the input, where so many bytes are left that make no whole block: the last records.
-fn close(rt: &(impl Print + Eprint), left: usize, tally: Tally, book: &[u64], output: &mut [u8]) {
+// The end of the input, where bytes that make no whole block may be left: the last records.
+fn close(
+    rt: &impl Print,
+    day: Day,
+    book: &[u64],
+    output: &mut [u8; OUTPUT],
+) -> Result<(), Failure> {
     let mut cut = [0u8; 10];
-    let closed = feed::close(left, tally, &mut cut);
-    let counts = closed.tally;
-    let is_written = write_cut(rt, &cut, closed.written);
-    if !is_written {
-        return;
-    }
-    let is_written = write_levels(rt, book, output);
-    if !is_written {
-        return;
-    }
+    let closed = feed::close(day.held, day.tally, &mut cut);
+    write(rt, carry::front(&cut, closed.written))?;
+    write_levels(rt, book, output)?;
     let mut last = [0u8; 17];
-    records::tally(&mut last, counts.messages, counts.refused);
-    write_tally(rt, &last);
+    records::tally(&mut last, closed.tally.messages, closed.tally.refused);
+    write(rt, &last)
 }
 
 // The input buffer holds the longest block, so there is room to read where no block is whole. The book has 1,024 slots: 257 numbers for
 // every 64 of them.
-fn main(rt: HostRuntime) {
+fn run(rt: &(impl Input + Print)) -> Result<(), Failure> {
     let mut directory = [0u64; 2048];
     let mut book = [0u64; 4112];
     let mut input = [0u8; 131072];
-    let mut output = [0u8; 65536];
-    let day = apply_all(&rt, &mut input, &mut directory, &mut book, &mut output);
-    let Turn::End(left, tally) = day else {
-        return;
-    };
-    close(&rt, left, tally, &book, &mut output);
+    let mut output = [0u8; OUTPUT];
+    let day = apply_all(rt, &mut input, &mut directory, &mut book, &mut output)?;
+    close(rt, day, &book, &mut output)
+}
+
+fn main(rt: HostRuntime) {
+    if let Err(failure) = run(&rt) {
+        tell(&rt, failure);
+    }
 }

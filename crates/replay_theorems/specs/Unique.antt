@@ -1,9 +1,9 @@
 -- Two ends of a call that its contract allows for one input are one: each contract states the whole end as what the input fixes.
 -- Assumes nothing.
-use Rattle.std.specs.Prelude.{◌≡◌, List, ℕ, ◌/◌, length}
+use Rattle.std.specs.Prelude.{◌≡◌, Option, List, ℕ, ◌/◌, length}
 use Rattle.std.proofs.Common.{sym, ap, ◌∙◌}
 use Rattle.apply.specs.Runs.{Tables}
-use Rattle.blocks.specs.declared.Block.{Block}
+use Rattle.std.specs.declared.ops.Range.{Range}
 use Rattle.blocks.specs.Blocks.{block_at}
 use Rattle.records.specs.Records.{level_size}
 use Rattle.feed.specs.declared.Tally.{Tally}
@@ -20,7 +20,7 @@ unique p q = p ∙ sym q
 
 -- ---- a block
 
-pub block_unique : (s : List ℕ) (at : ℕ) (r r' : Block) → r ≡ block_at s at → r' ≡ block_at s at → r ≡ r'
+pub block_unique : (s : List ℕ) (at : ℕ) (r r' : Option (Range ℕ)) → r ≡ block_at s at → r' ≡ block_at s at → r ≡ r'
 block_unique s at r r' p q = unique p q
 
 -- ---- whole blocks applied, and the end of the input

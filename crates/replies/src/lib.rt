@@ -3,94 +3,90 @@
 #![tactic(auto)]
 
 ghost use Rattle.std.specs.Prelude.{◌≡◌};
-ghost use Rattle.accounts.specs.declared.Accounted.TheVariants as accounted;
 ghost use Rattle.replies.specs.Replies.{account_number, account_row, count_number, count_row, level_row, quote_number, quote_row};
 
-use accounts::{Account, Accounted};
-use census::Counted;
-use levels::Quote;
+use accounts::Account;
+use levels::Level;
+use refusals::Refusal;
 
 // The eight numbers of an account.
 fn write_account(a: Account, out: &mut [u64; 8])
-    ensures { out.new ≡ account_row (accounted.Is a) }
+    ensures { out.new ≡ account_row (Ok a) }
 {
-    let locate = a.locate;
-    let side = a.side;
-    let price = a.price;
     *out = [
-        a.added as u64,
-        a.executed as u64,
-        a.cancelled as u64,
-        a.remaining as u64,
-        locate.0 as u64,
-        side.byte(),
-        price.0 as u64,
-        a.attribution as u64,
+        u64::from(a.added),
+        u64::from(a.executed),
+        u64::from(a.cancelled),
+        u64::from(a.remaining),
+        u64::from(a.locate.0),
+        a.side.byte(),
+        u64::from(a.price.0),
+        u64::from(a.attribution),
     ];
 }
 
-pub fn account(a: Accounted, out: &mut [u64; 8]) -> u8
+pub fn account(a: Result<Account, Refusal>, out: &mut [u64; 8]) -> u8
     ensures { (result ≡ account_number a) × (out.new ≡ account_row a) }
 {
     match a {
-        Accounted::Refused(refusal) => {
+        Err(refusal) => {
             *out = [0; 8];
-            refusal.number
+            u8::from(refusal)
         }
-        Accounted::Is(account) => {
+        Ok(account) => {
             write_account(account, out);
             0
         }
     }
 }
 
-pub fn level(q: Quote, out: &mut [u64; 2]) -> u8
+pub fn level(q: Result<Option<Level>, Refusal>, out: &mut [u64; 2]) -> u8
     ensures { (result ≡ quote_number q) × (out.new ≡ level_row q) }
 {
     match q {
-        Quote::Refused(refusal) => {
+        Err(refusal) => {
             *out = [0; 2];
-            refusal.number
+            u8::from(refusal)
         }
-        Quote::Nothing => {
+        Ok(None) => {
             *out = [0; 2];
             0
         }
-        Quote::Stands(l) => {
+        Ok(Some(l)) => {
             *out = [l.shares, l.orders];
             0
         }
     }
 }
 
-pub fn quote(q: Quote, out: &mut [u64; 4]) -> u8
+pub fn quote(q: Result<Option<Level>, Refusal>, out: &mut [u64; 4]) -> u8
     ensures { (result ≡ quote_number q) × (out.new ≡ quote_row q) }
 {
     match q {
-        Quote::Refused(refusal) => {
+        Err(refusal) => {
             *out = [0; 4];
-            refusal.number
+            u8::from(refusal)
         }
-        Quote::Nothing => {
+        Ok(None) => {
             *out = [0; 4];
             0
         }
-        Quote::Stands(l) => {
-            *out = [1, l.price as u64, l.shares, l.orders];
+        Ok(Some(l)) => {
+            *out = [1, u64::from(l.price), l.shares, l.orders];
             0
         }
     }
 }
 
-pub fn count(c: Counted, out: &mut [u64; 1]) -> u8
+pub fn count(c: Result<u64, Refusal>, out: &mut [u64; 1]) -> u8
     ensures { (result ≡ count_number c) × (out.new ≡ count_row c) }
 {
     match c {
-        Counted::Refused(refusal) => {
+        Err(refusal) => {
             *out = [0; 1];
-            refusal.number
+            u8::from(refusal)
         }
-        Counted::Live(n) => {
+        Ok(n) => {
             *out = [n];
             0
         }

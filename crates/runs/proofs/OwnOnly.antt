@@ -1,20 +1,16 @@
 -- ONLY ITS OWN (`only_its_own`): every order that a verdict takes out or puts in is mentioned by a line of the answer, under its reference
 -- and at its level (`quiet`), so totals over other orders and other levels stay. Assumes nothing.
-use Rattle.std.specs.Prelude.{◌≡◌, refl, Bool, true, false, cond, ℕ, eqb}
+use Rattle.refusals.specs.declared.Refusal.TheVariants.{Field}
+use Rattle.std.specs.Prelude.{◌≡◌, refl, Bool, true, false, cond, ℕ, eqb, Option, Result, Some, Ok, Err}
 use Rattle.std.proofs.Common.{sym, ap, subst, ◌∙◌, arith}
 use mathlib.Core.List.Memᴰ.{head as here}
 use mathlib.Core.List.Memᴰ.{tail as there}
 use mathlib.Core.List.{List, Memᴰ as Among}
-use Rattle.refusals.specs.Refusals.{FIELD}
 use Rattle.kinds.specs.declared.Side.{Side}
 use Rattle.kinds.specs.declared.Side.TheVariants.{Buy, Sell}
 use Rattle.kinds.specs.Sides.{side_byte, side_of, good_side}
 use Rattle.messages.specs.declared.Message.{Message}
-use Rattle.messages.specs.declared.Answer.{Answer}
-use Rattle.messages.specs.declared.Answer.TheVariants as read
 use Rattle.orders.specs.declared.Order.{Order}
-use Rattle.orders.specs.declared.Held.{Held}
-use Rattle.orders.specs.declared.Held.TheVariants.{Sound}
 use Rattle.orders.specs.Order.{remaining, executed_by, cancelled_by}
 use Rattle.decide.specs.Decide.{Verdict, refuse, enter, alter, leave, renew, enroll, pass, step_of}
 use Rattle.decide.specs.Figured.{figures_of}
@@ -24,13 +20,11 @@ use Rattle.take.specs.Taken.{taken_by}
 use Rattle.reader.specs.Read.{answer}
 use Rattle.steps.specs.Asked.{asked}
 use Rattle.steps.specs.Steps.{verdict_on}
-use Rattle.apply.specs.declared.Outcome.{Outcome}
 use Rattle.apply.specs.declared.Outcome.TheVariants.{Moved}
 use Rattle.apply.specs.Apply.{After, concluded}
 use Rattle.apply.specs.Runs.{Tables, tables_after, answer_to}
 use Rattle.accounts.specs.Accounts.{accounted, order_asked}
 use Rattle.levels.specs.declared.Level.{Level}
-use Rattle.levels.specs.declared.Quote.TheVariants.{Stands}
 use Rattle.levels.specs.Levels.{stands_at, shares_at, orders_at, no_quote, level_at, level_of}
 use Rattle.levels.specs.Totals.{total}
 use Rattle.moves.specs.Lawful.{Bytes}
@@ -45,6 +39,8 @@ use Rattle.runs.specs.OneMessage.{step_unread, step_read, step_facts, step_moved
 use Rattle.runs.specs.SameSeen.{is_order, is_other, seen_same}
 use Rattle.runs.specs.AlikeAsks.{order_seen, level_stands, level_same}
 use Rattle.runs.specs.OwnOnly.{lines_start, lines_take, lines_close, lines_replace}
+use Rattle.apply.specs.declared.Outcome.{Outcome}
+use Rattle.refusals.specs.declared.Refusal.{Refusal}
 
 -- ---- what a line mentions
 
@@ -62,8 +58,8 @@ same_level Executed o c l side p = refl
 same_level Cancelled o c l side p = refl
 
 -- what a weight of 0 on all orders that are mentioned says of a verdict with its facts
-quiet : (w : Held → ℕ) (d b : List ℕ) (k : ℕ) (x : Message) (v : Verdict) → Facts d b k (asked x) v
-    → ((o : Order) → Mentions (lines_of (concluded x (step_of v))) o → w (Sound o) ≡ 0) → (taken_out w v ≡ 0) × (put_in w v ≡ 0)
+quiet : (w : Option Order → ℕ) (d b : List ℕ) (k : ℕ) (x : Message) (v : Verdict) → Facts d b k (asked x) v
+    → ((o : Order) → Mentions (lines_of (concluded x (step_of v))) o → w (Some o) ≡ 0) → (taken_out w v ≡ 0) × (put_in w v ≡ 0)
 quiet w d b k x (refuse n) f h = (refl, refl)
 quiet w d b k x (enter o) f h =
     let y = figures_of o o.added (remaining o) in
@@ -80,7 +76,7 @@ quiet w d b k x (alter o o' n) f h =
     let y = figures_of o n (remaining o') in
     let at = line f.reference (taken_as f.how) y in
     let e = lines_take x f.how f.reference f.locate n y f.asks in
-    let in_lines : Among at (lines_of (Moved x y)) = subst (λ (xs : List Line). Among at xs) (sym e) (here refl) in
+    let in_lines : Among at (lines_of (Ok (Moved x y))) = subst (λ (xs : List Line). Among at xs) (sym e) (here refl) in
     let before = h o (record { by = at; among = in_lines; reference = sym f.rests.reference; level = λ l side p. refl }) in
     let after = h o' (record {
       by = at;
@@ -90,7 +86,7 @@ quiet w d b k x (alter o o' n) f h =
     }) in
     (before, nothing_put (eqb (remaining o') 0) after)
   where
-    nothing_put : (t : Bool) → w (Sound o') ≡ 0 → cond t 0 (w (Sound o')) ≡ 0
+    nothing_put : (t : Bool) → w (Some o') ≡ 0 → cond t 0 (w (Some o')) ≡ 0
     nothing_put true e = refl
     nothing_put false e = e
 quiet w d b k x (leave o) f h =
@@ -135,18 +131,18 @@ off false n = refl
 
 module _ (n k : ℕ) (t : Tables) (s : List ℕ) (z : Start n k) (h : Healthy n k t) (f : Fitting t) (bytes : Bytes s) where
   -- a weight of 0 on all orders that are mentioned has the same total after
-  total_stays : (w : Held → ℕ) → ((o : Order) → Mentions (lines_of (answer_to t s)) o → w (Sound o) ≡ 0)
+  total_stays : (w : Option Order → ℕ) → ((o : Order) → Mentions (lines_of (answer_to t s)) o → w (Some o) ≡ 0)
       → total w (tables_after t s).book k ≡ total w t.book k
   total_stays w q = go (answer s) refl
     where
-      go : (a : Answer) → answer s ≡ a → total w (tables_after t s).book k ≡ total w t.book k
-      go (read.Refused r) e = ap (λ (a : After). total w a.book k) (step_unread z h s r e)
-      go (read.Good x) e =
+      go : (a : Result Message Refusal) → answer s ≡ a → total w (tables_after t s).book k ≡ total w t.book k
+      go (Err r) e = ap (λ (a : After). total w a.book k) (step_unread z h s r e)
+      go (Ok x) e =
           let v = verdict_on t.directory t.book k (asked x) in
           let p = ap (λ (a : After). a.outcome) (step_read z h s x e) in
           let m = step_moved z h f s x bytes e in
           let still = quiet w t.directory t.book k x v (step_facts z h f s x bytes e)
-          (λ o y. q o (subst (λ (c : Outcome). Mentions (lines_of c) o) (sym p) y)) in
+          (λ o y. q o (subst (λ (c : Result Outcome Refusal). Mentions (lines_of c) o) (sym p) y)) in
           omega (arith, m.took w, m.gave w, still.0, still.1)
 
   after_healthy : Healthy n k (tables_after t s)
@@ -168,7 +164,7 @@ module _ (n k : ℕ) (t : Tables) (s : List ℕ) (z : Start n k) (h : Healthy n 
       → level_of (tables_after t s).book l (side_byte side) p ≡ level_of t.book l (side_byte side) p
   level_stays l side p none =
       level_stands z after_healthy l (side_byte side) p
-      ∙ ap (λ (x : Level). cond (good_side (side_byte side)) (Stands x) (no_quote FIELD))
+      ∙ ap (λ (x : Level). cond (good_side (side_byte side)) (Ok (Some x)) (no_quote Field))
       (read_back side stays)
       ∙ sym (level_stands z h l (side_byte side) p)
     where

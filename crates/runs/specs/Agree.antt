@@ -1,13 +1,12 @@
 -- BOOKS AGREE (`agree`): from tables made fresh, alike for they are empty, no message tells apart two books that are never full,
 -- whatever their sizes. Tables of good shapes are made fresh to `start_of` (`made_start`), so two tasks whose tables have the same lengths
 -- start, and stay, equal (`tasks_agree`). Assumes nothing.
-use Rattle.std.specs.Prelude.{◌≡◌, refl, Bool, true, false, cond, List, [], ◌∷◌, ℕ, ◌*◌, length, replicate}
+use Rattle.refusals.specs.declared.Refusal.TheVariants.{Shape}
+use Rattle.std.specs.Prelude.{◌≡◌, refl, Bool, true, false, cond, List, [], ◌∷◌, ℕ, ◌*◌, length, replicate, Ok, Err}
 use Rattle.std.proofs.Common.{sym, ap, ◌∙◌, arith}
 use mathlib.Core.List.Memᴰ.{head as here}
 use mathlib.Core.List.Memᴰ.{tail as there}
-use Rattle.refusals.specs.Refusals.{SHAPE, refusal_of}
 use Rattle.book.specs.Book.{words_of}
-use Rattle.fresh.specs.declared.Made.TheVariants.{Fresh, Refused}
 use Rattle.fresh.specs.Fresh.{good_shapes, made_number, made_of, fresh_of}
 use Rattle.apply.specs.Runs.{Tables, made, tables_after, answer_to, reached, said}
 use Rattle.apply_theorems.specs.Means.{shaped_good, good_shaped}
@@ -69,7 +68,7 @@ made_start n k d b z e f =
     let good : good_shapes d b ≡ true =
     shaped_good (record { directory = rw e z.directory; book = record { some = z.book.some; few = z.book.few; size = f } }) in
     record {
-      number = ap (λ x. made_number (cond x Fresh (Refused (refusal_of SHAPE)))) good;
+      number = ap (λ x. made_number (cond x (Ok tt) (Err Shape))) good;
       tables = λ i. record {
         directory = (made_fresh d b d good ∙ ap (λ (m : ℕ). replicate m 0) e) i;
         book = (made_fresh d b b good ∙ ap (λ (m : ℕ). replicate m 0) f) i;
@@ -83,7 +82,7 @@ were_good : (d b : List ℕ) → made_number (made_of d b) ≡ 0 → good_shapes
 unfolding made_of
 were_good d b e = go (good_shapes d b) e
   where
-    go : (x : Bool) → made_number (cond x Fresh (Refused (refusal_of SHAPE))) ≡ 0 → x ≡ true
+    go : (x : Bool) → made_number (cond x (Ok tt) (Err Shape)) ≡ 0 → x ≡ true
     go true e = refl
     go false e = absurd (omega arith)
 

@@ -1,10 +1,8 @@
 -- SLOTS DO NOT SHOW (`alike_slots`, `alike_step`): a verdict is made of the directory, of what is seen under references, and of whether
 -- there is room. Tables that are alike agree on these, so they give one verdict, and it moves their totals alike. Assumes nothing.
-use Rattle.std.specs.Prelude.{◌≡◌, refl, ◌≢◌, Bool, true, false, not, List, ℕ, ◌*◌, ltb}
+use Rattle.std.specs.Prelude.{◌≡◌, refl, ◌≢◌, Bool, true, false, not, List, ℕ, ◌*◌, ltb, Result, Ok, Err}
 use Rattle.std.proofs.Common.{sym, ap, ◌∙◌, arith}
 use Rattle.messages.specs.declared.Message.{Message}
-use Rattle.messages.specs.declared.Answer.{Answer}
-use Rattle.messages.specs.declared.Answer.TheVariants as read
 use Rattle.book.specs.Book.{find, lowest_free}
 use Rattle.directory.specs.Directory.{entry_at, is_symbol}
 use Rattle.orders.specs.declared.Order.{Order}
@@ -26,6 +24,8 @@ use Rattle.runs.specs.OneMessage.{step_unread, step_read, step_moved}
 use Rattle.runs.specs.SameSeen.{found_seen}
 use Rattle.runs.specs.AlikeAsks.{alike_seen, count_same}
 use Rattle.runs.specs.Room.{room_count}
+use Rattle.refusals.specs.declared.Refusal.{Refusal}
+use Rattle.refusals.specs.declared.Refusal.TheVariants.{Conflict, Duplicate, Full, Stock}
 
 -- ---- the verdict
 
@@ -35,7 +35,7 @@ answer_number x v = number_of (concluded x (step_of v))
 
 -- the gates of A and F
 abbrev gates : Bool → Bool → Bool → Bool → Order → Verdict
-gates registered listed fresh room o = gate registered 7 (gate listed 8 (gate fresh 9 (gate room 12 (enter o))))
+gates registered listed fresh room o = gate registered Stock (gate listed Conflict (gate fresh Duplicate (gate room Full (enter o))))
 
 -- A and F, where FULL is not what is answered: room or none, the verdict is one
 roomy : (m : Message) (registered listed fresh p q : Bool) (o : Order) → answer_number m (gates registered listed fresh p o) ≢ 12
@@ -67,7 +67,7 @@ module _ (n k m : ℕ) (t u : Tables) (s : List ℕ) (z : Start n k) (y : Start 
   abbrev SameVerdict : Message → Type 0
   SameVerdict x = verdict_on t.directory t.book k (asked x) ≡ verdict_on u.directory u.book m (asked x)
 
-  steps_alike : ((x : Message) → answer s ≡ read.Good x → SameVerdict x) → StepsAlike n k m t u s
+  steps_alike : ((x : Message) → answer s ≡ Ok x → SameVerdict x) → StepsAlike n k m t u s
   steps_alike same = go (answer s) refl
     where
       alike : answer_to t s ≡ answer_to u s → (tables_after t s).directory ≡ (tables_after u s).directory
@@ -82,14 +82,14 @@ module _ (n k m : ℕ) (t u : Tables) (s : List ℕ) (z : Start n k) (y : Start 
         };
       }
 
-      go : (x : Answer) → answer s ≡ x → StepsAlike n k m t u s
-      go (read.Refused r) e =
+      go : (x : Result Message Refusal) → answer s ≡ x → StepsAlike n k m t u s
+      go (Err r) e =
           let p = step_unread z a.first s r e in
           let q = step_unread y a.second s r e in
           alike (ap (λ (x : After). x.outcome) p ∙ sym (ap (λ (x : After). x.outcome) q))
           (ap (λ (x : After). x.directory) p ∙ a.directory ∙ sym (ap (λ (x : After). x.directory) q))
           (λ w. ap (λ (x : After). total w x.book k) p ∙ a.orders w ∙ sym (ap (λ (x : After). total w x.book m) q))
-      go (read.Good x) e =
+      go (Ok x) e =
           let p = step_read z a.first s x e in
           let q = step_read y a.second s x e in
           let v = same x e in
@@ -120,7 +120,7 @@ alike_step n k m t u s z y a f g bytes room =
     d : List ℕ
     d = t.directory
 
-    starts : (x : Message) → answer s ≡ read.Good x → (o : Order) (symbol : ℕ) → asked x ≡ start o symbol
+    starts : (x : Message) → answer s ≡ Ok x → (o : Order) (symbol : ℕ) → asked x ≡ start o symbol
         → verdict_on d t.book k (start o symbol) ≡ verdict_on d u.book m (start o symbol)
     starts x e o symbol q =
         let r = o.reference.0 in

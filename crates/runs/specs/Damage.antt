@@ -1,11 +1,9 @@
 -- WE NEVER DAMAGE A TABLE (`never_damaged`): after any run from fresh tables they are healthy, and healthy tables have their shapes and
 -- no unsound slot, so that no message and no question is given 13 or 14. Assumes nothing.
-use Rattle.std.specs.Prelude.{◌≡◌, refl, ◌⊎◌, ◌≢◌, Bool, true, false, List, ℕ, ◌*◌, ◌≤◌, ◌<◌}
+use Rattle.std.specs.Prelude.{◌≡◌, refl, ◌⊎◌, ◌≢◌, Bool, true, false, List, ℕ, ◌*◌, ◌≤◌, ◌<◌, Option, Result, Some, None}
 use Rattle.std.proofs.Common.{sym, ap, subst, ◌∙◌, inl, inr, arith}
 use Rattle.std.proofs.lemmas.Bool.{false≢true}
 use Rattle.book.specs.Book.{live}
-use Rattle.orders.specs.declared.Held.{Held}
-use Rattle.orders.specs.declared.Held.TheVariants.{Sound, Unsound}
 use Rattle.reader.specs.Read.{answer}
 use Rattle.slots.specs.Stored.{held_at}
 use Rattle.apply.specs.Apply.{number_of}
@@ -18,7 +16,6 @@ use Rattle.apply_theorems.specs.Means.{shaped_unique}
 use Rattle.apply_theorems.proofs.Exactly.{apply_exactly}
 use Rattle.accounts.specs.Accounts.{order_asked}
 use Rattle.census.specs.Census.{count_asked}
-use Rattle.levels.specs.declared.Quote.{Quote}
 use Rattle.levels.specs.Levels.{level_of, best_of, next_of}
 use Rattle.replies.specs.Replies.{account_number, quote_number, count_number}
 use Rattle.ask_theorems.specs.Statements.{in_book, Foul, QuoteExactly}
@@ -27,15 +24,18 @@ use Rattle.ask_theorems.proofs.Exactly.{level_exactly, best_exactly, next_exactl
 use Rattle.runs.specs.Statements.{Run, Start, start_of, Healthy, NoDamage, NeverDamaged}
 use Rattle.runs.specs.Orderly.{Orderly}
 use Rattle.runs.specs.Healthy.{healthy_shaped, healthy_orderly, healthy_reached}
+use Rattle.levels.specs.declared.Level.{Level}
+use Rattle.orders.specs.declared.Order.{Order}
+use Rattle.refusals.specs.declared.Refusal.{Refusal}
 
 -- ---- a message
 
-abbrev is_sound : Held → Bool
-is_sound (Sound o) = true
-is_sound Unsound = false
+abbrev is_sound : Option Order → Bool
+is_sound (Some o) = true
+is_sound None = false
 
 -- no live slot is unsound
-never_unsound : {d b : List ℕ} {k s : ℕ} → Orderly d b k → s < 64 * k → live b s ≡ 1 → held_at b k s ≡ Unsound → ⊥
+never_unsound : {d b : List ℕ} {k s : ℕ} → Orderly d b k → s < 64 * k → live b s ≡ 1 → held_at b k s ≡ None → ⊥
 never_unsound {s = s} h l a e = false≢true (ap is_sound (sym e ∙ (h.sound s l a).1))
 
 unbroken : {d b : List ℕ} {k r : ℕ} → Orderly d b k → Broken b k r → ⊥
@@ -96,7 +96,7 @@ module _ {n k : ℕ} {t : Tables} (z : Start n k) (h : Healthy n k t) where
       ((order_exactly t.book r (account_number (order_asked t.book r))).0 refl)
 
   -- of the level, the best and the next
-  quote_few : (byte : ℕ) (q : Quote) → QuoteExactly t.book byte q → quote_number q ≤ 12
+  quote_few : (byte : ℕ) (q : Result (Option Level) Refusal) → QuoteExactly t.book byte q → quote_number q ≤ 12
   quote_few byte q exact =
       booked_few (λ i. first ((byte ≢ 66) × (byte ≢ 83)) 4 (first (Foul t.book i) 13 done)) _
       (check (λ _. omega arith) (check (λ x. absurd (unfouled x)) (λ e. omega (arith, e))))

@@ -1,14 +1,12 @@
 -- Tables stay healthy: made fresh they are, and their numbers fit 64 bits, and both last through any message, so through any run.
 -- Assumes nothing.
-use Rattle.std.specs.Prelude.{◌≡◌, refl, List, [], ◌∷◌, ℕ, zero, suc, ◌+◌, ◌*◌, ◌/◌, ◌%◌, ◌^◌, get_or, replicate}
+use Rattle.std.specs.Prelude.{◌≡◌, refl, List, [], ◌∷◌, ℕ, zero, suc, ◌+◌, ◌*◌, ◌/◌, ◌%◌, ◌^◌, get_or, replicate, Result, Ok, Err}
 use Rattle.std.proofs.Common.{sym, ap, subst, ◌∙◌, arith}
 use mathlib.Core.List.Memᴰ.{head as here}
 use mathlib.Core.List.Memᴰ.{tail as there}
 use Rattle.std.proofs.Math.Nat.{zero-div}
 use Rattle.std.proofs.lemmas.List.{length-replicate}
 use Rattle.laws.specs.Definitions.{bit}
-use Rattle.messages.specs.declared.Answer.{Answer}
-use Rattle.messages.specs.declared.Answer.TheVariants as read
 use Rattle.directory.specs.Directory.{unused_of}
 use Rattle.book.specs.Book.{live, number_at}
 use Rattle.book.specs.Shape.{Sized, length_sized}
@@ -34,6 +32,8 @@ use Rattle.moves.specs.Judged.{facts}
 use Rattle.moves.specs.Kept.{stored-length, enrolled-length, stored-numbers, enrolled-numbers}
 use Rattle.runs.specs.Statements.{Run, Start, start_of, Healthy}
 use Rattle.runs.specs.Orderly.{Orderly, stored_orderly, enrolled_nought}
+use Rattle.messages.specs.declared.Message.{Message}
+use Rattle.refusals.specs.declared.Refusal.{Refusal}
 
 -- every number of both tables fits 64 bits
 pub record Fitting (t : Tables) : Type 0 where
@@ -108,9 +108,9 @@ after_keeps P n k t s z h w y p next = go (answer s) refl
     goes : {x : After} → applied t.directory t.book s ≡ x → P (record { directory = x.directory; book = x.book }) → P (tables_after t s)
     goes e = subst (λ (x : After). P (record { directory = x.directory; book = x.book })) (sym e)
 
-    go : (x : Answer) → answer s ≡ x → P (tables_after t s)
-    go (read.Refused r) e = goes (unread t.directory t.book s (shaped_good shaped) e) p
-    go (read.Good m) e =
+    go : (x : Result Message Refusal) → answer s ≡ x → P (tables_after t s)
+    go (Err r) e = goes (unread t.directory t.book s (shaped_good shaped) e) p
+    go (Ok m) e =
         let f = facts t.directory t.book k (asked m) (healthy_sized z h) w.book (lawful s m y e) in
         goes (judgement t.directory t.book s (shaped_good shaped) e)
         (rw (shaped_words shaped) (next (asked m) (verdict_on t.directory t.book k (asked m)) f))

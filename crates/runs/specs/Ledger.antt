@@ -1,6 +1,6 @@
 -- THE LEDGER: what messages and the answers given to them say of each order and of each level. It never looks at a table.
 -- Assumes nothing.
-use Rattle.std.specs.Prelude.{ℕ, ◌+◌, Bool, cond, ◌&&◌, List, [], ◌∷◌, ◌++◌, eqb}
+use Rattle.std.specs.Prelude.{ℕ, ◌+◌, Bool, cond, ◌&&◌, List, [], ◌∷◌, ◌++◌, eqb, Result, Ok, Err}
 use Rattle.kinds.specs.declared.Side.{Side}
 use Rattle.decide.specs.declared.Figures.{Figures}
 use Rattle.take.specs.declared.Taking.{Taking}
@@ -8,8 +8,9 @@ use Rattle.take.specs.declared.Taking.TheVariants.{Executed, Cancelled}
 use Rattle.steps.specs.Asked.{Asked, register, start, take, close, replace, nothing, asked}
 use Rattle.apply.specs.Runs.{Said}
 use Rattle.levels.specs.Levels.{same_side}
+use Rattle.apply.specs.declared.Outcome.TheVariants.{Accepted, Moved, Replaced}
 use Rattle.apply.specs.declared.Outcome.{Outcome}
-use Rattle.apply.specs.declared.Outcome.TheVariants.{Refused, Accepted, Moved, Replaced}
+use Rattle.refusals.specs.declared.Refusal.{Refusal}
 
 -- what happens to the shares of an order
 pub data Event : Type 0 where
@@ -46,11 +47,11 @@ two_lines (close r l) f g = []
 two_lines (replace original new l n p) f g = line original closed f ∷ line new added g ∷ []
 two_lines nothing f g = []
 
-abbrev pub lines_of : Outcome → List Line
-lines_of (Refused r) = []
-lines_of (Accepted m) = []
-lines_of (Moved m f) = one_line (asked m) f
-lines_of (Replaced m f g) = two_lines (asked m) f g
+abbrev pub lines_of : Result Outcome Refusal → List Line
+lines_of (Err r) = []
+lines_of (Ok (Accepted m)) = []
+lines_of (Ok (Moved m f)) = one_line (asked m) f
+lines_of (Ok (Replaced m f g)) = two_lines (asked m) f g
 
 abbrev pub ledger : List Said → List Line
 ledger [] = []

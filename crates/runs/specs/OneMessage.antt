@@ -1,9 +1,8 @@
 -- One message over healthy tables: it is refused unread, or its verdict moves the book's totals (`step_moved`). Assumes nothing.
-use Rattle.std.specs.Prelude.{◌≡◌, List, ℕ, length}
+use Rattle.std.specs.Prelude.{◌≡◌, List, ℕ, length, Ok, Err}
 use Rattle.std.proofs.Common.{sym, ap, subst, ◌∙◌}
 use Rattle.messages.specs.declared.Message.{Message}
 use Rattle.refusals.specs.declared.Refusal.{Refusal}
-use Rattle.messages.specs.declared.Answer.TheVariants as read
 use Rattle.book.specs.Book.{words_of}
 use Rattle.reader.specs.Read.{answer}
 use Rattle.steps.specs.Asked.{asked}
@@ -30,19 +29,19 @@ module _ {n k : ℕ} {t : Tables} (z : Start n k) (h : Healthy n k t) where
   words = shaped_words shaped
 
   -- bytes that are not a message
-  pub step_unread : (s : List ℕ) (r : Refusal) → answer s ≡ read.Refused r
+  pub step_unread : (s : List ℕ) (r : Refusal) → answer s ≡ Err r
       → applied t.directory t.book s ≡ unchanged t.directory t.book r
   step_unread s r e = unread t.directory t.book s (shaped_good shaped) e
 
   -- a message
-  pub step_read : (s : List ℕ) (x : Message) → answer s ≡ read.Good x
+  pub step_read : (s : List ℕ) (x : Message) → answer s ≡ Ok x
       → applied t.directory t.book s
       ≡ settled t.directory t.book k x (slot_sought t.book k (asked x)) (verdict_on t.directory t.book k (asked x))
   step_read s x e =
       judgement t.directory t.book s (shaped_good shaped) e
       ∙ ap (λ (i : ℕ). settled t.directory t.book i x (slot_sought t.book i (asked x)) (verdict_on t.directory t.book i (asked x))) words
 
-  module _ (f : Fitting t) (s : List ℕ) (x : Message) (y : Bytes s) (e : answer s ≡ read.Good x) where
+  module _ (f : Fitting t) (s : List ℕ) (x : Message) (y : Bytes s) (e : answer s ≡ Ok x) where
     pub step_facts : Facts t.directory t.book k (asked x) (verdict_on t.directory t.book k (asked x))
     step_facts = facts t.directory t.book k (asked x) (healthy_sized z h) f.book (lawful s x y e)
 

@@ -1,5 +1,5 @@
 -- In a healthy book there is one order at most under a reference, and the order question shows what remains of it. Assumes nothing.
-use Rattle.std.specs.Prelude.{◌≡◌, ◌≢◌, Bool, eqb}
+use Rattle.std.specs.Prelude.{◌≡◌, ◌≢◌, Bool, eqb, Option, Some, None}
 use Rattle.std.proofs.Math.Path.{refl, ap}
 use Rattle.std.proofs.Common.{sym, subst, ◌∙◌, ⊎_elim, arith, eq-eqb, ne_eqb}
 use Rattle.std.proofs.Math.Bool.{cond}
@@ -8,14 +8,10 @@ use Prim.Native.Nat.{ℕ}
 use Rattle.laws.specs.Bools.{true_not_false}
 use Rattle.laws.specs.Least.{same_or}
 use Rattle.kinds.specs.declared.Slot.{Slot}
-use Rattle.book.specs.declared.Found.{Found}
-use Rattle.book.specs.declared.Found.TheVariants.{At, Nothing}
 use Rattle.book.specs.Book.{live, number_at, holds, find, clear_slot}
 use Rattle.book.specs.Finds.{holds_yes, found_slot, nowhere}
 use Rattle.book.specs.Slots.{clear_changed}
 use Rattle.orders.specs.declared.Order.{Order}
-use Rattle.orders.specs.declared.Held.{Held}
-use Rattle.orders.specs.declared.Held.TheVariants.{Sound, Unsound}
 use Rattle.orders.specs.Order.{remaining}
 use Rattle.orders.specs.OrderLaws.{held-numbers}
 use Rattle.slots.specs.Stored.{held_at, seen_in}
@@ -29,15 +25,15 @@ use Rattle.runs.specs.Statements.{Start, Healthy, remains_shown}
 use Rattle.runs.specs.Healthy.{healthy_shaped, healthy_sized}
 
 -- what remains of an order, if its reference is r
-abbrev pub only_of : ℕ → Held → ℕ
-only_of r (Sound o) = cond (eqb o.reference.0 r) (remaining o) 0
-only_of r Unsound = 0
+abbrev pub only_of : ℕ → Option Order → ℕ
+only_of r (Some o) = cond (eqb o.reference.0 r) (remaining o) 0
+only_of r None = 0
 
 module _ (r : ℕ) where
   -- ---- what is under a reference
 
   -- the weight of an order whose reference and remaining shares are known
-  pub weighs : (o : Order) (s n : ℕ) → o.reference.0 ≡ s → remaining o ≡ n → only_of r (Sound o) ≡ cond (eqb s r) n 0
+  pub weighs : (o : Order) (s n : ℕ) → o.reference.0 ≡ s → remaining o ≡ n → only_of r (Some o) ≡ cond (eqb s r) n 0
   weighs o s n e q = ap (λ (x : ℕ). cond (eqb x r) (remaining o) 0) e ∙ ap (λ (x : ℕ). cond (eqb s r) x 0) q
 
   -- a live slot weighs nothing where its reference is another
@@ -45,23 +41,23 @@ module _ (r : ℕ) where
   unfolding held_at
   other_weighs b k s d = go (held_at b k s) refl
     where
-      go : (h : Held) → held_at b k s ≡ h → only_of r h ≡ 0
-      go Unsound e = refl
-      go (Sound o) e = rw (ne_eqb o.reference.0 r (λ q. d (sym (held-numbers _ _ _ _ o e).0 ∙ q)))
+      go : (h : Option Order) → held_at b k s ≡ h → only_of r h ≡ 0
+      go None e = refl
+      go (Some o) e = rw (ne_eqb o.reference.0 r (λ q. d (sym (held-numbers _ _ _ _ o e).0 ∙ q)))
 
   -- nothing is left under a reference that is not found
-  unknown_total : (b : List ℕ) (k : ℕ) → find b k r ≡ Nothing → total (only_of r) b k ≡ 0
+  unknown_total : (b : List ℕ) (k : ℕ) → find b k r ≡ None → total (only_of r) b k ≡ 0
   unknown_total b k e =
       none_total (only_of r) b k λ s l a.
       other_weighs b k s λ q. true_not_false (holds b k r s) (holds_yes b k r s a q) (nowhere b k r e s l)
 
-  pub same_unknown : (b : List ℕ) (k s : ℕ) → find b k s ≡ Nothing → s ≡ r → total (only_of r) b k ≡ 0
-  same_unknown b k s e q = unknown_total b k (subst (λ (x : ℕ). find b k x ≡ Nothing) q e)
+  pub same_unknown : (b : List ℕ) (k s : ℕ) → find b k s ≡ None → s ≡ r → total (only_of r) b k ≡ 0
+  same_unknown b k s e q = unknown_total b k (subst (λ (x : ℕ). find b k x ≡ None) q e)
 
   -- ---- what the question shows
 
   -- where the reference is found, no other live slot has it
-  elsewhere : (n k : ℕ) (t : Tables) → Start n k → Healthy n k t → (s : Slot) → find t.book k r ≡ At s
+  elsewhere : (n k : ℕ) (t : Tables) → Start n k → Healthy n k t → (s : Slot) → find t.book k r ≡ Some s
       → total (only_of r) (clear_slot t.book k s.0) k ≡ 0
   elsewhere n k t i h s e =
       let b = t.book in
@@ -75,8 +71,8 @@ module _ (r : ℕ) where
       (same_or v s.0)
 
   -- so its order's shares are all that is left
-  found_total : (n k : ℕ) (t : Tables) → Start n k → Healthy n k t → (s : Slot) (o : Order) → find t.book k r ≡ At s
-      → held_at t.book k s.0 ≡ Sound o → total (only_of r) t.book k ≡ remaining o
+  found_total : (n k : ℕ) (t : Tables) → Start n k → Healthy n k t → (s : Slot) (o : Order) → find t.book k r ≡ Some s
+      → held_at t.book k s.0 ≡ Some o → total (only_of r) t.book k ≡ remaining o
   unfolding held_at
   found_total n k t i h s o e q =
       let b = t.book in
@@ -95,9 +91,9 @@ module _ (r : ℕ) where
       b : List ℕ
       b = t.book
 
-      sound : (s : Slot) → find b k r ≡ At s → (o : Order) × (held_at b k s.0 ≡ Sound o)
+      sound : (s : Slot) → find b k r ≡ Some s → (o : Order) × (held_at b k s.0 ≡ Some o)
       sound s e = let g = found_slot b k r s e in let x = h.sound s.0 g.0 g.1 in (x.0, x.1)
 
-      go : (f : Found) → find b k r ≡ f → remains_shown (accounted (seen_in b k f)) ≡ total (only_of r) b k
-      go Nothing e = sym (unknown_total b k e)
-      go (At s) e = let x = sound s e in rw x.1 (sym (found_total n k t i h s x.0 e x.1))
+      go : (f : Option Slot) → find b k r ≡ f → remains_shown (accounted (seen_in b k f)) ≡ total (only_of r) b k
+      go None e = sym (unknown_total b k e)
+      go (Some s) e = let x = sound s e in rw x.1 (sym (found_total n k t i h s x.0 e x.1))

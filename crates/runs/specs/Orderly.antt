@@ -1,6 +1,6 @@
 -- The book's part of health, `Orderly`: one changed slot keeps it where the slot is cleared, or where it is put with an order whose
 -- stock is registered and whose reference no other live slot holds. So every verdict with its facts keeps it. Assumes nothing.
-use Rattle.std.specs.Prelude.{◌≡◌, ◌≢◌, Bool, cond, List, ℕ, zero, suc, ◌*◌, ◌<◌}
+use Rattle.std.specs.Prelude.{◌≡◌, ◌≢◌, Bool, cond, List, ℕ, zero, suc, ◌*◌, ◌<◌, Some, None}
 use Rattle.std.proofs.Math.Path.{refl, sym}
 use Rattle.std.proofs.Common.{ap, subst, ◌∙◌, ⊎_elim, arith}
 use Rattle.std.proofs.Math.Bool.{true, false}
@@ -9,16 +9,13 @@ use Rattle.std.proofs.Math.Dec.{eqb}
 use Rattle.laws.specs.Bools.{true_not_false}
 use Rattle.laws.specs.Least.{same_or}
 use Rattle.kinds.specs.declared.Slot.{Slot}
-use Rattle.book.specs.declared.Found.TheVariants.{At, Nothing}
 use Rattle.book.specs.Book.{live, number_at, holds, find, lowest_free, clear_slot}
 use Rattle.book.specs.Finds.{holds_yes, found_slot, nowhere, free_slot}
 use Rattle.book.specs.Shape.{Sized}
 use Rattle.book.specs.Slots.{Changed, clear_changed, clear_sized}
-use Rattle.directory.specs.declared.Entry.TheVariants.{Symbol}
 use Rattle.directory.specs.Directory.{entry_at, registered, unused_of}
 use Rattle.directory.specs.DirectoryLaws.{registered_other, registered-same, registered_unused}
 use Rattle.orders.specs.declared.Order.{Order}
-use Rattle.orders.specs.declared.Held.TheVariants.{Sound}
 use Rattle.orders.specs.Order.{remaining}
 use Rattle.orders.specs.OrderLaws.{Fit}
 use Rattle.decide.specs.Decide.{Verdict, refuse, enter, alter, leave, renew, enroll, pass}
@@ -32,7 +29,7 @@ use Rattle.moves.specs.TotalMoves.{held_off, put_slot_lem, put-held}
 use Rattle.runs.specs.Statements.{Zero, Listed}
 
 pub record Orderly (d b : List ℕ) (k : ℕ) : Type 0 where
-  pub sound : (s : ℕ) → s < 64 * k → live b s ≡ 1 → (o : Order) × (held_at b k s ≡ Sound o) × Listed d o.locate.0
+  pub sound : (s : ℕ) → s < 64 * k → live b s ≡ 1 → (o : Order) × (held_at b k s ≡ Some o) × Listed d o.locate.0
   pub apart : (s u : ℕ) → s < 64 * k → u < 64 * k → live b s ≡ 1 → live b u ≡ 1 → number_at b k s 0 ≡ number_at b k u 0 → s ≡ u
   pub free : (s : ℕ) → s < 64 * k → live b s ≡ 0 → Zero b k s
 
@@ -55,11 +52,11 @@ below_four P p q r s (suc (suc (suc (suc i)))) l = absurd (omega arith)
 
 module _ {d b c : List ℕ} {k s v n0 n1 n2 n3 : ℕ} (h : Orderly d b k) (g : Changed k s v n0 n1 n2 n3 b c) where
   -- a live slot then holds a sound order of its own, a free one zeros
-  one_slot : (v ≡ 1 → (o : Order) × (held_at c k s ≡ Sound o) × Listed d o.locate.0) → (v ≡ 1 → Alone b k s n0)
+  one_slot : (v ≡ 1 → (o : Order) × (held_at c k s ≡ Some o) × Listed d o.locate.0) → (v ≡ 1 → Alone b k s n0)
       → (v ≡ 0 → Zero c k s) → Orderly d c k
   one_slot holding alone none = record { sound = sounds; apart = aparts; free = frees }
     where
-      sounds : (t : ℕ) → t < 64 * k → live c t ≡ 1 → (o : Order) × (held_at c k t ≡ Sound o) × Listed d o.locate.0
+      sounds : (t : ℕ) → t < 64 * k → live c t ≡ 1 → (o : Order) × (held_at c k t ≡ Some o) × Listed d o.locate.0
       sounds t l e =
           ⊎_elim
           (λ (q : t ≡ s). rw q (holding (sym g.bit_at ∙ rw q at e)))
@@ -118,7 +115,7 @@ module _ {d b : List ℕ} {k s : ℕ} (z : Sized b k) (l : s < 64 * k) where
           put_orderly o h (f (eqb-false (remaining o) 0 p)) y λ t m q i w. q (h.apart t s m l i e (w ∙ sym n))
 
 -- a reference that is not found is held by no live slot
-unheld : (b : List ℕ) (k r : ℕ) → find b k r ≡ Nothing → Unheld b k r
+unheld : (b : List ℕ) (k r : ℕ) → find b k r ≡ None → Unheld b k r
 unheld b k r e t l a n = true_not_false (holds b k r t) (holds_yes b k r t a n) (nowhere b k r e t l)
 
 -- and one that no live slot holds is held by none once a slot is cleared
@@ -132,20 +129,20 @@ cleared_unheld b k s r z l u t m e =
 
 -- an order that enters
 entered_orderly : {d b : List ℕ} {k : ℕ} (o : Order) (s : Slot) → Sized b k → Orderly d b k → Fit o → Listed d o.locate.0
-    → Unheld b k o.reference.0 → lowest_free b k ≡ At s → Orderly d (entered b k o) k
+    → Unheld b k o.reference.0 → lowest_free b k ≡ Some s → Orderly d (entered b k o) k
 unfolding entered
 entered_orderly {b = b} {k} o s z h f y u e = rw e (put_orderly z (free_slot b k s e).0 o h f y λ t m q. u t m)
 
 -- ---- registered stocks
 
-pub entry_listed : {d : List ℕ} {l n : ℕ} → entry_at d l ≡ Symbol n → n ≢ 0 → Listed d l
+pub entry_listed : {d : List ℕ} {l n : ℕ} → entry_at d l ≡ Some n → n ≢ 0 → Listed d l
 entry_listed {n = n} e some = record { symbol = n; entry = e; some = some }
 
 -- the stock of an order that rests
 rests_listed : {d b : List ℕ} {k r : ℕ} {o : Order} → Orderly d b k → Rests b k r o → Listed d o.locate.0
 rests_listed {d} {o = o} h i =
     let p = h.sound i.slot.0 i.inside i.alive in
-    let q : Sound p.0 ≡ Sound o = sym p.1 ∙ i.holding in
+    let q : Some p.0 ≡ Some o = sym p.1 ∙ i.holding in
     let same : p.0 ≡ o = cc in
     subst (λ (x : Order). Listed d x.locate.0) same p.2
 

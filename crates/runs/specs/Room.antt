@@ -1,16 +1,15 @@
 -- A book has a free slot exactly when fewer than all its slots are live (`room_count`). Assumes nothing.
-use Rattle.std.specs.Prelude.{◌≡◌, refl, Bool, true, false, cond, List, ℕ, zero, suc, ◌*◌, ◌≤◌, ◌<◌, eqb, ltb}
+use Rattle.std.specs.Prelude.{◌≡◌, refl, Bool, true, false, cond, List, ℕ, zero, suc, ◌*◌, ◌≤◌, ◌<◌, eqb, ltb, Option, Some, None}
 use Rattle.std.proofs.Common.{sym, ap, ◌∙◌, ⊎_elim, arith, eq-eqb, ne_eqb, lt-ltb, le-ltb}
 use Rattle.laws.specs.Bools.{true_not_false}
 use Rattle.laws.specs.Sum.{sum_ext, sum-le, sum_change}
 use Rattle.laws.specs.Definitions.{sum_to}
-use Rattle.book.specs.declared.Found.{Found}
-use Rattle.book.specs.declared.Found.TheVariants.{At, Nothing}
 use Rattle.book.specs.Book.{live, is_free, lowest_free}
 use Rattle.book.specs.Finds.{free_yes, free_slot, full}
 use Rattle.slots.specs.Stored.{is_at}
 use Rattle.levels.specs.TotalLaws.{live_cases}
 use Rattle.census.specs.Census.{live_count}
+use Rattle.kinds.specs.declared.Slot.{Slot}
 
 sum_ones : (n : ℕ) → sum_to (λ i. 1) n ≡ n
 unfolding sum_to
@@ -18,7 +17,7 @@ sum_ones zero = refl
 sum_ones (suc n) = omega (arith, sum_ones n)
 
 -- where no slot is free, all are live
-full_count : (b : List ℕ) (k : ℕ) → lowest_free b k ≡ Nothing → live_count b k ≡ 64 * k
+full_count : (b : List ℕ) (k : ℕ) → lowest_free b k ≡ None → live_count b k ≡ 64 * k
 unfolding live_count
 full_count b k e =
     sum_ext (live b) (λ i. 1) (64 * k)
@@ -45,6 +44,6 @@ free_count b k s l e =
 pub room_count : (b : List ℕ) (k : ℕ) → is_at (lowest_free b k) ≡ ltb (live_count b k) (64 * k)
 room_count b k = go (lowest_free b k) refl
   where
-    go : (f : Found) → lowest_free b k ≡ f → is_at f ≡ ltb (live_count b k) (64 * k)
-    go (At s) e = let g = free_slot b k s e in sym (lt-ltb (live_count b k) (64 * k) (free_count b k s.0 g.0 g.1))
-    go Nothing e = sym (le-ltb (live_count b k) (64 * k) (omega (arith, full_count b k e)))
+    go : (f : Option Slot) → lowest_free b k ≡ f → is_at f ≡ ltb (live_count b k) (64 * k)
+    go (Some s) e = let g = free_slot b k s e in sym (lt-ltb (live_count b k) (64 * k) (free_count b k s.0 g.0 g.1))
+    go None e = sym (le-ltb (live_count b k) (64 * k) (omega (arith, full_count b k e)))

@@ -1,17 +1,14 @@
 -- What is shown of each verdict with its facts holds of each message (`by_verdict`), and what links the book before a message to the
 -- book after it, and chains, links both ends of a run (`over_run`). The lines of the ledger are read off what was asked, and shares
 -- taken of an order are what its weight falls by. Assumes nothing.
-use Rattle.std.specs.Prelude.{◌≡◌, refl, Bool, true, false, cond, List, [], ◌∷◌, ◌++◌, ℕ, ◌+◌, ◌-◌, ◌*◌, ◌≤◌, eqb, replicate}
+use Rattle.std.specs.Prelude.{◌≡◌, refl, Bool, true, false, cond, List, [], ◌∷◌, ◌++◌, ℕ, ◌+◌, ◌-◌, ◌*◌, ◌≤◌, eqb, replicate, Option, Result, Ok, Err}
 use Rattle.std.proofs.Common.{sym, subst, arith, eqb-true}
 use mathlib.Core.List.Memᴰ.{head as here}
 use mathlib.Core.List.Memᴰ.{tail as there}
 use Rattle.messages.specs.declared.Message.{Message}
 use Rattle.refusals.specs.declared.Refusal.{Refusal}
-use Rattle.messages.specs.declared.Answer.{Answer}
-use Rattle.messages.specs.declared.Answer.TheVariants as read
 use Rattle.reader.specs.Read.{answer}
 use Rattle.orders.specs.declared.Order.{Order}
-use Rattle.orders.specs.declared.Held.{Held}
 use Rattle.orders.specs.Order.{remaining}
 use Rattle.decide.specs.declared.Figures.{Figures}
 use Rattle.decide.specs.Decide.{Verdict, step_of, renewed}
@@ -19,8 +16,7 @@ use Rattle.take.specs.declared.Taking.{Taking}
 use Rattle.take.specs.declared.Taking.TheVariants.{Executed, Cancelled}
 use Rattle.steps.specs.Asked.{Asked, take, asked}
 use Rattle.steps.specs.Steps.{verdict_on, slot_sought}
-use Rattle.apply.specs.declared.Outcome.{Outcome}
-use Rattle.apply.specs.declared.Outcome.TheVariants.{Refused, Moved}
+use Rattle.apply.specs.declared.Outcome.TheVariants.{Moved}
 use Rattle.apply.specs.Apply.{After, concluded, settled, applied}
 use Rattle.apply.specs.ApplyLaws.{unread, judgement}
 use Rattle.apply.specs.Runs.{Tables, tables_after, answer_to, reached, said}
@@ -37,13 +33,14 @@ use Rattle.moves.specs.Reads.{lawful}
 use Rattle.runs.specs.Ledger.{Event, added, executed, cancelled, closed, Line, line, lines_of, ledger}
 use Rattle.runs.specs.Statements.{Run, Start, start_of, Healthy}
 use Rattle.runs.specs.Healthy.{Fitting, none_live, healthy_after, fitting_after, healthy_shaped, healthy_sized}
+use Rattle.apply.specs.declared.Outcome.{Outcome}
 
 -- ---- one message
 
 -- bytes that are refused leave the book; any other message comes to a verdict, which has its facts and moves the book
 pub by_verdict : (n k : ℕ) (t : Tables) (s : List ℕ) → Start n k → Healthy n k t → Fitting t → Bytes s
-    → (P : Outcome → List ℕ → Type 0)
-    → ((r : Refusal) → P (Refused r) t.book)
+    → (P : Result Outcome Refusal → List ℕ → Type 0)
+    → ((r : Refusal) → P (Err r) t.book)
     → ((x : Message) (v : Verdict) (b' : List ℕ) → Facts t.directory t.book k (asked x) v → Moves t.book b' k v
     → P (concluded x (step_of v)) b')
     → P (answer_to t s) (tables_after t s).book
@@ -61,9 +58,9 @@ by_verdict n k t s i h g y P refused came = go (answer s) refl
     Q : After → Type 0
     Q a = P a.outcome a.book
 
-    go : (a : Answer) → answer s ≡ a → Q (applied d b s)
-    go (read.Refused r) e = subst Q (sym (unread d b s (shaped_good shaped) e)) (refused r)
-    go (read.Good x) e =
+    go : (a : Result Message Refusal) → answer s ≡ a → Q (applied d b s)
+    go (Err r) e = subst Q (sym (unread d b s (shaped_good shaped) e)) (refused r)
+    go (Ok x) e =
         let z = healthy_sized i h in
         let v = verdict_on d b k (asked x) in
         let f = facts d b k (asked x) z g.book (lawful s x y e) in
@@ -87,7 +84,7 @@ over_run n k i R none one both (s ∷ ss) y t h g =
     (over_run n k i R none one both ss (λ u m. y u (there m)) u (healthy_after n k t s i h g b) (fitting_after n k t s i h g b))
 
 -- nothing has weight in a book made fresh
-pub fresh_total : (w : Held → ℕ) (n k : ℕ) → total w (start_of n k).book k ≡ 0
+pub fresh_total : (w : Option Order → ℕ) (n k : ℕ) → total w (start_of n k).book k ≡ 0
 fresh_total w n k = none_total w (replicate (257 * k) 0) k λ s l e. absurd (omega (arith, none_live (257 * k) s, e))
 
 -- ---- the lines of the ledger
@@ -103,7 +100,7 @@ Takes closed = Unit {0}
 pub record TakeLine (x : Message) (f : Figures) (r : ℕ) : Type 0 where
   pub event : Event
   pub takes : Takes event
-  pub lines : lines_of (Moved x f) ≡ line r event f ∷ []
+  pub lines : lines_of (Ok (Moved x f)) ≡ line r event f ∷ []
 
 pub take-line : (x : Message) (f : Figures) (how : Taking) (r l n : ℕ) → asked x ≡ take how r l n → TakeLine x f r
 take-line x f Executed r l n e = record { event = executed; takes = tt; lines = rw e }

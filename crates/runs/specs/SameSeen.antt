@@ -1,17 +1,13 @@
 -- What is seen under a reference is told by totals: the weight `is_order o` counts the live orders with the four numbers of o, and in
 -- healthy books it is 1 exactly where o is what is found. Assumes nothing.
-use Rattle.std.specs.Prelude.{◌≡◌, refl, Bool, true, false, cond, ◌&&◌, List, ℕ, ◌*◌, ◌<◌, eqb}
+use Rattle.std.specs.Prelude.{◌≡◌, refl, Bool, true, false, cond, ◌&&◌, List, ℕ, ◌*◌, ◌<◌, eqb, Option, Some, None}
 use Rattle.std.proofs.Common.{sym, ap, ◌∙◌, ⊎_elim, arith, eq-eqb, ne_eqb, eqb-true}
 use Rattle.laws.specs.Bools.{and_left, and_right, true_not_false}
 use Rattle.laws.specs.Least.{same_or}
 use Rattle.kinds.specs.declared.Slot.{Slot}
-use Rattle.book.specs.declared.Found.{Found}
-use Rattle.book.specs.declared.Found.TheVariants.{At, Nothing}
 use Rattle.book.specs.Book.{live, number_at, holds, find}
 use Rattle.book.specs.Finds.{holds_yes, found_slot, nowhere}
 use Rattle.orders.specs.declared.Order.{Order}
-use Rattle.orders.specs.declared.Held.{Held}
-use Rattle.orders.specs.declared.Held.TheVariants.{Sound, Unsound}
 use Rattle.orders.specs.Order.{second, third, fourth, held}
 use Rattle.orders.specs.OrderLaws.{held-numbers}
 use Rattle.decide.specs.Decide.{Seen, unseen, something}
@@ -28,11 +24,11 @@ abbrev same_rest : Order → Order → Bool
 same_rest o x = eqb (second x) (second o) && (eqb (third x) (third o) && eqb (fourth x) (fourth o))
 
 -- 1 where an order with the four numbers of o is held
-abbrev pub is_order : Order → Held → ℕ
-is_order o (Sound x) = cond (eqb x.reference.0 o.reference.0 && same_rest o x) 1 0
-is_order o Unsound = 0
+abbrev pub is_order : Order → Option Order → ℕ
+is_order o (Some x) = cond (eqb x.reference.0 o.reference.0 && same_rest o x) 1 0
+is_order o None = 0
 
-pub is_itself : (o : Order) → is_order o (Sound o) ≡ 1
+pub is_itself : (o : Order) → is_order o (Some o) ≡ 1
 is_itself o =
     rw (itself o.reference.0, itself (second o), itself (third o), itself (fourth o))
   where
@@ -40,7 +36,7 @@ is_itself o =
     itself i = eq-eqb i i refl
 
 -- an order under another reference weighs nothing
-pub is_other : (o x : Order) → (x.reference.0 ≡ o.reference.0 → ⊥) → is_order o (Sound x) ≡ 0
+pub is_other : (o x : Order) → (x.reference.0 ≡ o.reference.0 → ⊥) → is_order o (Some x) ≡ 0
 is_other o x d = rw (ne_eqb x.reference.0 o.reference.0 d)
 
 picked : (t : Bool) → 0 < cond t 1 0 → t ≡ true
@@ -48,19 +44,19 @@ picked true l = refl
 picked false l = absurd (omega arith)
 
 -- the reference of the order in a slot is the slot's number 0
-pub held_reference : (b : List ℕ) (k s : ℕ) (o : Order) → held_at b k s ≡ Sound o → o.reference.0 ≡ number_at b k s 0
+pub held_reference : (b : List ℕ) (k s : ℕ) (o : Order) → held_at b k s ≡ Some o → o.reference.0 ≡ number_at b k s 0
 unfolding held_at
 held_reference b k s o e = (held-numbers _ _ _ _ o e).0
 
 -- slots that hold orders with the same numbers hold the same
-is_same : (b : List ℕ) (k s : ℕ) (c : List ℕ) (m u : ℕ) (o : Order) → held_at b k s ≡ Sound o → 0 < is_order o (held_at c m u)
-    → held_at c m u ≡ Sound o
+is_same : (b : List ℕ) (k s : ℕ) (c : List ℕ) (m u : ℕ) (o : Order) → held_at b k s ≡ Some o → 0 < is_order o (held_at c m u)
+    → held_at c m u ≡ Some o
 unfolding held_at
 is_same b k s c m u o e l = go (held_at c m u) refl l
   where
-    go : (h : Held) → held_at c m u ≡ h → 0 < is_order o h → held_at c m u ≡ Sound o
-    go Unsound f l = absurd (omega arith)
-    go (Sound x) f l =
+    go : (h : Option Order) → held_at c m u ≡ h → 0 < is_order o h → held_at c m u ≡ Some o
+    go None f l = absurd (omega arith)
+    go (Some x) f l =
         let t = picked (eqb x.reference.0 o.reference.0 && same_rest o x) l in
         let t1 = and_right (eqb x.reference.0 o.reference.0) (same_rest o x) t in
         let t2 = and_right (eqb (second x) (second o)) (eqb (third x) (third o) && eqb (fourth x) (fourth o)) t1 in
@@ -79,7 +75,7 @@ is_same b k s c m u o e l = go (held_at c m u) refl l
 -- ---- totals
 
 -- a live slot whose weight is not 0 makes the total not 0
-weighs : (w : Held → ℕ) (b : List ℕ) (k s : ℕ) → s < 64 * k → live b s ≡ 1 → 0 < w (held_at b k s) → 0 < total w b k
+weighs : (w : Option Order → ℕ) (b : List ℕ) (k s : ℕ) → s < 64 * k → live b s ≡ 1 → 0 < w (held_at b k s) → 0 < total w b k
 weighs w b k s l a p =
     ⊎_elim
     (λ (z : total w b k ≡ 0). absurd (omega (arith, total_none w b k z s l a)))
@@ -92,7 +88,7 @@ SameUnder r b k c m = (o : Order) → o.reference.0 ≡ r → total (is_order o)
 
 -- what is found in the one is seen in the other
 sees : (n k n' m : ℕ) (t u : Tables) (r : ℕ) → Healthy n k t → Healthy n' m u → SameUnder r t.book k u.book m
-    → (s : Slot) → find t.book k r ≡ At s → seen_in u.book m (find u.book m r) ≡ something (held_at t.book k s.0)
+    → (s : Slot) → find t.book k r ≡ Some s → seen_in u.book m (find u.book m r) ≡ something (held_at t.book k s.0)
 sees n k n' m t u r hb hc same s e = go (find c m r) refl
   where
     b : List ℕ
@@ -107,7 +103,7 @@ sees n k n' m t u r hb hc same s e = go (find c m r) refl
     o : Order
     o = (hb.sound s.0 g.0 g.1).0
 
-    holding : held_at b k s.0 ≡ Sound o
+    holding : held_at b k s.0 ≡ Some o
     holding = (hb.sound s.0 g.0 g.1).1
 
     under : o.reference.0 ≡ r
@@ -122,15 +118,15 @@ sees n k n' m t u r hb hc same s e = go (find c m r) refl
     v : ℕ
     v = there.0
 
-    holds_it : held_at c m v ≡ Sound o
+    holds_it : held_at c m v ≡ Some o
     holds_it = is_same b k s.0 c m v o holding there.3
 
     at_r : number_at c m v 0 ≡ r
     at_r = sym (held_reference c m v o holds_it) ∙ under
 
-    go : (f : Found) → find c m r ≡ f → seen_in c m f ≡ something (held_at b k s.0)
-    go Nothing q = absurd (true_not_false (holds c m r v) (holds_yes c m r v there.2 at_r) (nowhere c m r q v there.1))
-    go (At x) q =
+    go : (f : Option Slot) → find c m r ≡ f → seen_in c m f ≡ something (held_at b k s.0)
+    go None q = absurd (true_not_false (holds c m r v) (holds_yes c m r v there.2 at_r) (nowhere c m r q v there.1))
+    go (Some x) q =
         let y = found_slot c m r x q in
         let z : x.0 ≡ v = hc.apart x.0 v y.0 there.1 y.1 there.2 (y.2 ∙ sym at_r) in
         ap something (ap (held_at c m) z ∙ holds_it ∙ sym holding)
@@ -140,19 +136,19 @@ pub seen_same : (n k n' m : ℕ) (t u : Tables) (r : ℕ) → Healthy n k t → 
     → seen_in t.book k (find t.book k r) ≡ seen_in u.book m (find u.book m r)
 seen_same n k n' m t u r hb hc same = go (find t.book k r) refl (find u.book m r) refl
   where
-    go : (f : Found) → find t.book k r ≡ f → (g : Found) → find u.book m r ≡ g → seen_in t.book k f ≡ seen_in u.book m g
-    go (At s) p g q = sym (ap (seen_in u.book m) (sym q) ∙ sees n k n' m t u r hb hc same s p)
-    go Nothing p (At s) q = ap (seen_in t.book k) (sym p) ∙ sees n' m n k u t r hc hb (λ o e. sym (same o e)) s q
-    go Nothing p Nothing q = refl
+    go : (f : Option Slot) → find t.book k r ≡ f → (g : Option Slot) → find u.book m r ≡ g → seen_in t.book k f ≡ seen_in u.book m g
+    go (Some s) p g q = sym (ap (seen_in u.book m) (sym q) ∙ sees n k n' m t u r hb hc same s p)
+    go None p (Some s) q = ap (seen_in t.book k) (sym p) ∙ sees n' m n k u t r hc hb (λ o e. sym (same o e)) s q
+    go None p None q = refl
 
 abbrev was_seen : Seen → Bool
 was_seen unseen = false
 was_seen (something h) = true
 
 -- and so both are found, or neither
-pub found_seen : (b : List ℕ) (k : ℕ) (c : List ℕ) (m : ℕ) (f g : Found) → seen_in b k f ≡ seen_in c m g → is_at f ≡ is_at g
+pub found_seen : (b : List ℕ) (k : ℕ) (c : List ℕ) (m : ℕ) (f g : Option Slot) → seen_in b k f ≡ seen_in c m g → is_at f ≡ is_at g
 found_seen b k c m f g e = as_seen b k f ∙ ap was_seen e ∙ sym (as_seen c m g)
   where
-    as_seen : (b : List ℕ) (k : ℕ) (f : Found) → is_at f ≡ was_seen (seen_in b k f)
-    as_seen b k (At s) = refl
-    as_seen b k Nothing = refl
+    as_seen : (b : List ℕ) (k : ℕ) (f : Option Slot) → is_at f ≡ was_seen (seen_in b k f)
+    as_seen b k (Some s) = refl
+    as_seen b k None = refl

@@ -1,23 +1,16 @@
 -- WHAT IS PROMISED over any run of messages, good and bad, from tables made fresh: conservation by order and by level, tables that we
 -- never damage, books that agree. The other files prove it. Assumes nothing.
-use Rattle.std.specs.Prelude.{◌≡◌, true, ◌≢◌, ℕ, ◌+◌, ◌*◌, ◌<◌, length}
+use Rattle.std.specs.Prelude.{◌≡◌, true, ◌≢◌, ℕ, ◌+◌, ◌*◌, ◌<◌, length, Option, Result, Some, None, Ok, Err}
 use mathlib.Core.List.{List, Memᴰ as Among}
 use Rattle.kinds.specs.declared.Side.{Side}
 use Rattle.kinds.specs.Sides.{side_byte}
-use Rattle.directory.specs.declared.Entry.TheVariants.{Symbol}
 use Rattle.directory.specs.Directory.{DirectoryLength, unused_of, entry_at}
 use Rattle.book.specs.Book.{BookLength, live, number_at}
 use Rattle.orders.specs.declared.Order.{Order}
-use Rattle.orders.specs.declared.Held.{Held}
-use Rattle.orders.specs.declared.Held.TheVariants.{Sound}
 use Rattle.slots.specs.Stored.{held_at}
 use Rattle.apply.specs.Apply.{number_of}
 use Rattle.apply.specs.Runs.{Tables, Said, made, fresh_tables, tables_after, answer_to, reached, said}
-use Rattle.accounts.specs.declared.Accounted.{Accounted}
-use Rattle.accounts.specs.declared.Accounted.TheVariants as account
 use Rattle.accounts.specs.Accounts.{order_asked}
-use Rattle.levels.specs.declared.Quote.{Quote}
-use Rattle.levels.specs.declared.Quote.TheVariants as quote
 use Rattle.census.specs.Census.{count_asked}
 use Rattle.levels.specs.Levels.{level_of, best_of, next_of}
 use Rattle.levels.specs.Totals.{total}
@@ -25,6 +18,9 @@ use Rattle.replies.specs.Replies.{account_number, quote_number, count_number}
 use Rattle.fresh.specs.Fresh.{made_number, made_of}
 use Rattle.moves.specs.Lawful.{Bytes}
 use Rattle.runs.specs.Ledger.{Line, no_life, life, lines_of, ledger, of_level, put, taken}
+use Rattle.accounts.specs.declared.Account.{Account}
+use Rattle.levels.specs.declared.Level.{Level}
+use Rattle.refusals.specs.declared.Refusal.{Refusal}
 
 -- any byte strings, in any order
 abbrev pub Run : List (List ℕ) → Type 0
@@ -46,9 +42,9 @@ pub record MadeStart (n k : ℕ) (d b : List ℕ) : Type 0 where
 -- ---- 1. by order
 
 -- what the order question shows: what remains, 0 where no order is live
-abbrev pub remains_shown : Accounted → ℕ
-remains_shown (account.Refused r) = 0
-remains_shown (account.Is a) = a.remaining
+abbrev pub remains_shown : Result Account Refusal → ℕ
+remains_shown (Err r) = 0
+remains_shown (Ok a) = a.remaining
 
 -- shares added = executed + cancelled + reported as closed + shown
 abbrev pub ByOrder : ℕ → ℕ → List (List ℕ) → ℕ → Type 0
@@ -59,10 +55,10 @@ ByOrder n k ss r =
 -- ---- 2. by level
 
 -- what the level question shows
-abbrev pub shares_shown : Quote → ℕ
-shares_shown (quote.Refused r) = 0
-shares_shown quote.Nothing = 0
-shares_shown (quote.Stands l) = l.shares
+abbrev pub shares_shown : Result (Option Level) Refusal → ℕ
+shares_shown (Err r) = 0
+shares_shown (Ok None) = 0
+shares_shown (Ok (Some l)) = l.shares
 
 -- what was put there = what was taken away + the total shown
 abbrev pub ByLevel : ℕ → ℕ → List (List ℕ) → ℕ → Side → ℕ → Type 0
@@ -79,7 +75,7 @@ Zero b k s = (i : ℕ) → i < 4 → number_at b k s i ≡ 0
 -- an order's stock is registered
 pub record Listed (d : List ℕ) (l : ℕ) : Type 0 where
   pub symbol : ℕ
-  pub entry : entry_at d l ≡ Symbol symbol
+  pub entry : entry_at d l ≡ Some symbol
   pub some : symbol ≢ 0
 
 pub record Healthy (n k : ℕ) (t : Tables) : Type 0 where
@@ -88,7 +84,7 @@ pub record Healthy (n k : ℕ) (t : Tables) : Type 0 where
   -- number 0 of the directory is 0
   pub nought : unused_of t.directory ≡ 0
   -- live slots are sound, and their stocks registered
-  pub sound : (s : ℕ) → s < 64 * k → live t.book s ≡ 1 → (o : Order) × (held_at t.book k s ≡ Sound o) × Listed t.directory o.locate.0
+  pub sound : (s : ℕ) → s < 64 * k → live t.book s ≡ 1 → (o : Order) × (held_at t.book k s ≡ Some o) × Listed t.directory o.locate.0
   -- references of live slots are all different
   pub apart : (s u : ℕ) → s < 64 * k → u < 64 * k → live t.book s ≡ 1 → live t.book u ≡ 1 → number_at t.book k s 0 ≡ number_at t.book k u 0 → s ≡ u
   -- free slots are zero
@@ -112,7 +108,7 @@ pub record NeverDamaged (n k : ℕ) (ss : List (List ℕ)) : Type 0 where
 
 -- the same orders, in whatever slots, of books that may differ in size: every weight has the same total
 abbrev pub SameOrders : List ℕ → ℕ → List ℕ → ℕ → Type 0
-SameOrders b k c m = (w : Held → ℕ) → total w b k ≡ total w c m
+SameOrders b k c m = (w : Option Order → ℕ) → total w b k ≡ total w c m
 
 -- tables with the same directory and the same orders
 pub record Alike (n k m : ℕ) (t u : Tables) : Type 0 where

@@ -1,25 +1,28 @@
 // Where an order is: the lowest live slot that holds a reference, by map words. It knows nothing of messages.
 #![tactic(auto)]
 
-ghost use Rattle.std.specs.Prelude.{◌≡◌, false, ℕ, ◌+◌, ◌≤◌, ◌<◌, length};
+ghost use Rattle.std.specs.Prelude.{◌≡◌, false, ℕ, ◌+◌, ◌≤◌, ◌<◌, length, IsTrue};
 ghost use Rattle.laws.specs.Definitions.{least};
 ghost use Rattle.book.specs.Book.{find};
 ghost use Rattle.book.specs.Eights.{NoneOfEight};
 ghost use Rattle.book.specs.Shape.{Sized};
 ghost use Rattle.book.specs.Words.{in_word};
 
-use book::Found;
+use book::Book;
 use kinds::{Reference, Slot};
 
-// The first slot of map number j that is live and holds `want`, by the map number's one bits; 64 where there is none.
-fn find_sparse(book: &[u64], k: usize, want: u64, j: usize) -> usize
-    requires { Sized book.now k × (j < k) }
-    ensures { result ≡ least (in_word book.now k want j) 64 }
+// The first slot of map number j that is live and holds `want`, by the map number's one bits; 64 where there is none, as `least` says it
+// in the definition: an Option would be a second way to say the same in four inner functions of the hot loop.
+fn find_sparse(book: Book<'_>, want: u64, j: usize) -> usize
+    requires { j < book.k }
+    ensures { result ≡ least (in_word book.entry.numbers.now book.entry.k want j) 64 }
 {
-    let mut m = book[j];
+    let numbers = book.numbers;
+    let k = book.k;
+    let mut m = numbers[j];
     while m != 0 {
-        let t = u64::trailing_zeros(m) as usize;
-        if book[k + 4 * (64 * j + t)] == want {
+        let t = m.trailing_zeros() as usize;
+        if numbers[k + 4 * (64 * j + t)] == want {
             return t;
         }
         m = m & (m - 1);
@@ -27,97 +30,83 @@ fn find_sparse(book: &[u64], k: usize, want: u64, j: usize) -> usize
     64
 }
 
-// 1 only where none of the eight slots from place a on has `want` as its number 0.
-fn none_of_eight(book: &[u64], a: usize, want: u64) -> u64
+// True only where none of the eight slots from place a on has `want` as its number 0.
+fn none_of_eight(book: &[u64], a: usize, want: u64) -> bool
     requires { a + 29 ≤ length book.now }
-    ensures { result ≡ 1 → NoneOfEight book.now a want }
+    ensures { IsTrue result → NoneOfEight book.now a want }
 {
-    if book[a] == want {
-        return 0;
+    for i in 0..8 {
+        if book[a + 4 * i] == want {
+            return false;
+        }
     }
-    if book[a + 4] == want {
-        return 0;
-    }
-    if book[a + 8] == want {
-        return 0;
-    }
-    if book[a + 12] == want {
-        return 0;
-    }
-    if book[a + 16] == want {
-        return 0;
-    }
-    if book[a + 20] == want {
-        return 0;
-    }
-    if book[a + 24] == want {
-        return 0;
-    }
-    if book[a + 28] == want {
-        return 0;
-    }
-    1
+    true
 }
 
 // As find_sparse, slot by slot from slot i of the map number on, where none below i is live and holds `want`.
-fn find_from(book: &[u64], k: usize, want: u64, j: usize, i: usize) -> usize
-    requires { Sized book.now k × (j < k) × (i ≤ 64) × ((t : ℕ) → t < i → in_word book.now k want j t ≡ false) }
-    ensures { result ≡ least (in_word book.now k want j) 64 }
+fn find_from(book: Book<'_>, want: u64, j: usize, i: usize) -> usize
+    requires { (j < book.k) × (i ≤ 64) × ((t : ℕ) → t < i → in_word book.numbers.now book.k want j t ≡ false) }
+    ensures { result ≡ least (in_word book.entry.numbers.now book.entry.k want j) 64 }
 {
-    let w = book[j];
-    let mut t = i;
-    while t < 64 {
-        if book[k + 4 * (64 * j + t)] == want {
+    let numbers = book.numbers;
+    let k = book.k;
+    let w = numbers[j];
+    for t in i..64 {
+        if numbers[k + 4 * (64 * j + t)] == want {
             if book::bit_of(w, t) == 1 {
                 return t;
             }
         }
-        t += 1;
     }
     64
 }
 
 // As find_sparse, eight slots at a time, live or not.
-fn find_dense(book: &[u64], k: usize, want: u64, j: usize) -> usize
-    requires { Sized book.now k × (j < k) }
-    ensures { result ≡ least (in_word book.now k want j) 64 }
+fn find_dense(book: Book<'_>, want: u64, j: usize) -> usize
+    requires { j < book.k }
+    ensures { result ≡ least (in_word book.entry.numbers.now book.entry.k want j) 64 }
 {
-    let mut i: usize = 0;
-    while i < 64 {
-        if none_of_eight(book, k + 4 * (64 * j + i), want) != 1 {
-            return find_from(book, k, want, j, i);
+    for eighth in 0..8 {
+        let i = 8 * eighth;
+        if !none_of_eight(book.numbers, book.k + 4 * (64 * j + i), want) {
+            return find_from(book, want, j, i);
         }
-        i += 8;
     }
     64
 }
 
 // As find_sparse, by whichever of the two is quicker: any test may choose, since both answer the same.
-fn find_word(book: &[u64], k: usize, want: u64, j: usize) -> usize
-    requires { Sized book.now k × (j < k) }
-    ensures { result ≡ least (in_word book.now k want j) 64 }
+fn find_word(book: Book<'_>, want: u64, j: usize) -> usize
+    requires { j < book.k }
+    ensures { result ≡ least (in_word book.entry.numbers.now book.entry.k want j) 64 }
 {
-    let w = book[j];
+    let w = book.numbers[j];
     let x = w & (w >> 32);
     if x & (x >> 16) != 0 {
-        return find_dense(book, k, want, j);
+        return find_dense(book, want, j);
     }
-    find_sparse(book, k, want, j)
+    find_sparse(book, want, j)
+}
+
+// The lowest live slot that holds `want`: a book by value is passed in memory, and these two in registers.
+fn find_in(numbers: &[u64], k: usize, want: u64) -> Option<Slot>
+    requires { Sized numbers.now k }
+    ensures { result ≡ find numbers.now k want }
+{
+    let book = Book { numbers, k };
+    for j in 0..k {
+        let i = find_word(book, want, j);
+        if i < 64 {
+            return Some(Slot(64 * j + i));
+        }
+    }
+    None
 }
 
 // The lowest live slot that holds the reference.
-pub fn find(book: &[u64], k: usize, reference: Reference) -> Found
-    requires { Sized book.now k }
-    ensures { result ≡ find book.now k reference.0 }
+#[inline(always)]
+pub fn find(book: Book<'_>, reference: Reference) -> Option<Slot>
+    ensures { result ≡ find book.entry.numbers.now book.entry.k reference.0 }
 {
-    let want = reference.0;
-    let mut j: usize = 0;
-    while j < k {
-        let i = find_word(book, k, want, j);
-        if i < 64 {
-            return Found::At(Slot(64 * j + i));
-        }
-        j += 1;
-    }
-    Found::Nothing
+    find_in(book.numbers, book.k, reference.0)
 }

@@ -1,42 +1,40 @@
 -- What is seen in the book, and what a verdict stores there (01, 'The tables the desk lends'). Assumes nothing.
-use Rattle.std.specs.Prelude.{ℕ, Bool, true, false, cond, List, eqb}
-use Rattle.book.specs.declared.Found.{Found}
-use Rattle.book.specs.declared.Found.TheVariants.{At, Nothing}
+use Rattle.std.specs.Prelude.{ℕ, Bool, true, false, cond, List, eqb, Option, Some, None}
 use Rattle.book.specs.Book.{find, lowest_free, number_at, put_slot, clear_slot}
 use Rattle.orders.specs.declared.Order.{Order}
-use Rattle.orders.specs.declared.Held.{Held}
 use Rattle.orders.specs.Order.{held, remaining, second, third, fourth}
 use Rattle.decide.specs.Decide.{Verdict, refuse, enter, alter, leave, renew, enroll, pass, Seen, unseen, something}
+use Rattle.kinds.specs.declared.Slot.{Slot}
 
 -- what slot s holds
-unfoldable pub held_at : List ℕ → ℕ → ℕ → Held
+unfoldable pub held_at : List ℕ → ℕ → ℕ → Option Order
 held_at b k s = held (number_at b k s 0) (number_at b k s 1) (number_at b k s 2) (number_at b k s 3)
 
-abbrev pub seen_in : List ℕ → ℕ → Found → Seen
-seen_in b k (At s) = something (held_at b k s.0)
-seen_in b k Nothing = unseen
+abbrev pub seen_in : List ℕ → ℕ → Option Slot → Seen
+seen_in b k (Some s) = something (held_at b k s.0)
+seen_in b k None = unseen
 
-abbrev pub is_at : Found → Bool
-is_at (At s) = true
-is_at Nothing = false
+abbrev pub is_at : Option Slot → Bool
+is_at (Some s) = true
+is_at None = false
 
 -- a reference is live
 abbrev pub is_live : List ℕ → ℕ → ℕ → Bool
 is_live b k r = is_at (find b k r)
 
 -- the slot of a search that found one
-abbrev pub slot_of : Found → ℕ
-slot_of (At s) = s.0
-slot_of Nothing = 0
+abbrev pub slot_of : Option Slot → ℕ
+slot_of (Some s) = s.0
+slot_of None = 0
 
 -- slot s live with the numbers of the order
 unfoldable pub put_order : List ℕ → ℕ → ℕ → Order → List ℕ
 put_order b k s o = put_slot b k s o.reference.0 (second o) (third o) (fourth o)
 
 -- the order in the slot that a search for a free one found
-abbrev pub placed : List ℕ → ℕ → Order → Found → List ℕ
-placed b k o (At s) = put_order b k s.0 o
-placed b k o Nothing = b
+abbrev pub placed : List ℕ → ℕ → Order → Option Slot → List ℕ
+placed b k o (Some s) = put_order b k s.0 o
+placed b k o None = b
 
 -- a new order takes the lowest free slot
 unfoldable pub entered : List ℕ → ℕ → Order → List ℕ

@@ -3,18 +3,18 @@
 #![tactic(auto)]
 
 ghost use Rattle.std.specs.Prelude.{◌≡◌};
-ghost use Rattle.book.specs.Shape.{Sized};
+ghost use Rattle.book.specs.Lent.{SameBook};
 ghost use Rattle.messages.specs.declared.Message.TheVariants as message;
+ghost use Rattle.steps.specs.Asked as ask;
 ghost use Rattle.steps.specs.Asked.{asked, starting};
-ghost use Rattle.steps.specs.Steps.{Does, Lists, Places, Turns};
+ghost use Rattle.steps.specs.Steps.{Does, Turns};
 
+use book::BookMut;
 use decide::Step;
 use kinds::{Price, Reference, Side};
-use messages::{
-    AddOrder, AddOrderMpid, Head, Message, OrderCancel, OrderDelete, OrderExecuted,
-    OrderExecutedWithPrice, OrderReplace, StockDirectory,
-};
+use messages::{Head, Message, OrderDelete, OrderReplace};
 use orders::Order;
+use refusals::Refusal;
 use take::Taking;
 
 // An order of which nothing is gone yet.
@@ -28,7 +28,6 @@ fn start(
 ) -> Order
     ensures { result ≡ starting head reference side shares price attribution }
 {
-    let locate = head.stock_locate;
     Order {
         reference,
         price,
@@ -36,123 +35,85 @@ fn start(
         executed: 0,
         cancelled: 0,
         closed: 0,
-        locate,
+        locate: head.stock_locate,
         side,
         attribution,
     }
 }
 
-// A: the order is kept with attribution NSDQ.
-fn add_order(directory: &[u64], book: &mut [u64], k: usize, m: AddOrder) -> Step
-    requires { Sized book.old k }
-    ensures { Places directory.now book.old k (asked (message.AddOrder m)) result book.new }
-{
-    let head = m.head;
-    let reference = m.order_reference_number;
-    let side = m.buy_sell_indicator;
-    let price = m.price;
-    let o = start(head, reference, side, m.shares, price, 0x4E534451);
-    place::place(directory, book, k, m.stock, o)
-}
-
-// F: the order is kept with its own attribution.
-fn add_order_mpid(directory: &[u64], book: &mut [u64], k: usize, m: AddOrderMpid) -> Step
-    requires { Sized book.old k }
-    ensures { Places directory.now book.old k (asked (message.AddOrderMpid m)) result book.new }
-{
-    let head = m.head;
-    let reference = m.order_reference_number;
-    let side = m.buy_sell_indicator;
-    let price = m.price;
-    let o = start(head, reference, side, m.shares, price, m.attribution);
-    place::place(directory, book, k, m.stock, o)
-}
-
-fn order_executed(book: &mut [u64], k: usize, m: OrderExecuted) -> Step
-    requires { Sized book.old k }
-    ensures { Turns book.old k (asked (message.OrderExecuted m)) result book.new }
-{
-    let head = m.head;
-    let locate = head.stock_locate;
-    let reference = m.order_reference_number;
-    let executed = m.executed_shares;
-    let found = search::find(book, k, reference);
-    take::take(book, k, found, locate, executed, Taking::Executed)
-}
-
-// C: its execution price never moves the order's level.
+// E, C and X take shares from the order with this reference. (C's execution price never moves the order's level.)
 #[tactic(auto, using(book::specs::Finds::find_within))]
-fn order_executed_with_price(book: &mut [u64], k: usize, m: OrderExecutedWithPrice) -> Step
-    requires { Sized book.old k }
-    ensures { Turns book.old k (asked (message.OrderExecutedWithPrice m)) result book.new }
+fn take_shares(
+    book: &mut BookMut<'_>,
+    head: Head,
+    reference: Reference,
+    n: u32,
+    how: Taking,
+) -> Result<Step, Refusal>
+    ensures same { SameBook book.old book.new }
+    ensures turns { Turns book.old.numbers.now book.old.k (ask.take how reference.0 head.stock_locate.0 n) result book.new.numbers.now }
 {
-    let head = m.head;
-    let locate = head.stock_locate;
-    let reference = m.order_reference_number;
-    let printed = m.executed_shares;
-    let found = search::find(book, k, reference);
-    take::take(book, k, found, locate, printed, Taking::Executed)
+    let found = search::find(book.look(), reference);
+    take::take(book, found, head.stock_locate, n, how)
 }
 
-fn order_cancel(book: &mut [u64], k: usize, m: OrderCancel) -> Step
-    requires { Sized book.old k }
-    ensures { Turns book.old k (asked (message.OrderCancel m)) result book.new }
+// D: all that remains of the order is closed.
+#[tactic(auto, using(book::specs::Finds::find_within))]
+fn order_delete(book: &mut BookMut<'_>, m: OrderDelete) -> Result<Step, Refusal>
+    ensures same { SameBook book.old book.new }
+    ensures turns { Turns book.old.numbers.now book.old.k (asked (message.OrderDelete m)) result book.new.numbers.now }
 {
-    let head = m.head;
-    let locate = head.stock_locate;
-    let reference = m.order_reference_number;
-    let cancelled = m.cancelled_shares;
-    let found = search::find(book, k, reference);
-    take::take(book, k, found, locate, cancelled, Taking::Cancelled)
+    let found = search::find(book.look(), m.order_reference_number);
+    take::delete(book, found, m.head.stock_locate)
 }
 
-fn order_delete(book: &mut [u64], k: usize, m: OrderDelete) -> Step
-    requires { Sized book.old k }
-    ensures { Turns book.old k (asked (message.OrderDelete m)) result book.new }
+// U: the new order takes the place of the original.
+#[tactic(auto, using(book::specs::Finds::find_within))]
+fn order_replace(book: &mut BookMut<'_>, m: OrderReplace) -> Result<Step, Refusal>
+    ensures same { SameBook book.old book.new }
+    ensures turns { Turns book.old.numbers.now book.old.k (asked (message.OrderReplace m)) result book.new.numbers.now }
 {
-    let head = m.head;
-    let locate = head.stock_locate;
-    let reference = m.order_reference_number;
-    let found = search::find(book, k, reference);
-    take::delete(book, k, found, locate)
-}
-
-fn order_replace(book: &mut [u64], k: usize, m: OrderReplace) -> Step
-    requires { Sized book.old k }
-    ensures { Turns book.old k (asked (message.OrderReplace m)) result book.new }
-{
-    let head = m.head;
-    let locate = head.stock_locate;
+    let locate = m.head.stock_locate;
     let original = m.original_order_reference_number;
     let new = m.new_order_reference_number;
-    let price = m.price;
-    let found = search::find(book, k, original);
-    replace::replace(book, k, found, original, new, locate, m.shares, price)
+    let found = search::find(book.look(), original);
+    replace::replace(book, found, original, new, locate, m.shares, m.price)
 }
 
-// R registers its symbol.
-fn stock_directory(directory: &mut [u64], m: StockDirectory) -> Step
-    ensures { Lists directory.old (asked (message.StockDirectory m)) result directory.new }
-{
-    let head = m.head;
-    let locate = head.stock_locate;
-    enroll::enroll(directory, locate, m.stock)
-}
-
-// What a message does, by its kind.
-pub fn step(directory: &mut [u64], book: &mut [u64], k: usize, m: Message) -> Step
-    requires { Sized book.old k }
-    ensures { Does directory.old book.old k (asked m) result directory.new book.new }
+// What a message does, by its kind: a match and no table, since each kind has other fields.
+pub fn step(directory: &mut [u64], book: &mut BookMut<'_>, m: Message) -> Result<Step, Refusal>
+    ensures same { SameBook book.old book.new }
+    ensures does { Does directory.old book.old.numbers.now book.old.k (asked m) result directory.new book.new.numbers.now }
 {
     match m {
-        Message::AddOrder(m) => add_order(directory, book, k, m),
-        Message::AddOrderMpid(m) => add_order_mpid(directory, book, k, m),
-        Message::OrderExecuted(m) => order_executed(book, k, m),
-        Message::OrderExecutedWithPrice(m) => order_executed_with_price(book, k, m),
-        Message::OrderCancel(m) => order_cancel(book, k, m),
-        Message::OrderDelete(m) => order_delete(book, k, m),
-        Message::OrderReplace(m) => order_replace(book, k, m),
-        Message::StockDirectory(m) => stock_directory(directory, m),
-        _ => Step::Plain,
+        // A is kept with attribution NSDQ, F with its own.
+        Message::AddOrder(m) => {
+            let reference = m.order_reference_number;
+            let side = m.buy_sell_indicator;
+            let o = start(m.head, reference, side, m.shares, m.price, 0x4E534451);
+            place::place(directory, book, m.stock, o)
+        }
+        Message::AddOrderMpid(m) => {
+            let reference = m.order_reference_number;
+            let side = m.buy_sell_indicator;
+            let o = start(m.head, reference, side, m.shares, m.price, m.attribution);
+            place::place(directory, book, m.stock, o)
+        }
+        Message::OrderExecuted(m) => {
+            let n = m.executed_shares;
+            take_shares(book, m.head, m.order_reference_number, n, Taking::Executed)
+        }
+        Message::OrderExecutedWithPrice(m) => {
+            let n = m.executed_shares;
+            take_shares(book, m.head, m.order_reference_number, n, Taking::Executed)
+        }
+        Message::OrderCancel(m) => {
+            let n = m.cancelled_shares;
+            take_shares(book, m.head, m.order_reference_number, n, Taking::Cancelled)
+        }
+        Message::OrderDelete(m) => order_delete(book, m),
+        Message::OrderReplace(m) => order_replace(book, m),
+        Message::StockDirectory(m) => enroll::enroll(directory, m.head.stock_locate, m.stock),
+        _ => Ok(Step::Plain),
     }
 }

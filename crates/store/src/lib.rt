@@ -8,10 +8,8 @@ ghost use Rattle.store.specs.Store.{big_endian};
 pub fn big_endian(part: &mut [u8], value: u64)
     ensures { part.new ≡ big_endian (length part.old) value }
 {
-    let mut i = part.len();
     let mut rest = value;
-    while i > 0 {
-        i -= 1;
+    for i in (0..part.len()).rev() {
         part[i] = (rest % 256) as u8;
         rest /= 256;
     }

@@ -1,5 +1,5 @@
 -- What a message that reads as Good is: as long as its type says, with no field at fault, so its Stock field is a text. Assumes nothing.
-use Rattle.std.specs.Prelude.{ℕ, ◌≤◌, ◌≡◌, refl, Bool, true, false, cond, not, ◌&&◌, ◌||◌, List, [], ◌∷◌, eqb, length}
+use Rattle.std.specs.Prelude.{ℕ, ◌≤◌, ◌≡◌, refl, Bool, true, false, cond, not, ◌&&◌, ◌||◌, List, [], ◌∷◌, eqb, length, Result, Ok}
 use Rattle.std.proofs.Common.{subst, true≢false, arith, eqb-true}
 use Rattle.std.proofs.lemmas.Bool.{false≢true, eqb-false, not-false}
 use Rattle.laws.specs.Bools.{and_right}
@@ -9,27 +9,26 @@ use Rattle.text.specs.Text.{text}
 use Rattle.layout.specs.Kind.{Kind, Cell}
 use Rattle.layout.specs.Kind.Kind.{number, time, shares, price4, price8, texts, side, printable, code, alpha, reserved}
 use Rattle.layout.specs.Layout.{cells_of, length_of}
-use Rattle.messages.specs.declared.Answer.{Answer}
-use Rattle.messages.specs.declared.Answer.TheVariants.{Good}
 use Rattle.messages.specs.declared.Message.{Message}
 use Rattle.wellformed.specs.WellFormed.{good, earns, value_at, wrong, faulty, refusal}
 use Rattle.reader.specs.Read.{no_message, type_of, judged_as, answer}
 use Rattle.symbol.specs.Symbol.{is_text, is_stock, stock_in, stock_at, stock_of, is_good}
+use Rattle.refusals.specs.declared.Refusal.{Refusal}
 
 pub record Formed (s : List ℕ) : Type 0 where
   pub some : 1 ≤ length s
   pub sized : length s ≡ length_of (type_of s)
   pub faultless : refusal s (cells_of (type_of s)) ≡ 0
 
--- the answer is Good only where no test refused
-passed : (a b c : Bool) (x : Answer) → is_good (cond a (no_message LENGTH) (cond b (no_message TYPE) (cond c x (no_message LENGTH)))) ≡ true
+-- the answer is Ok only where no test refused
+passed : (a b c : Bool) (x : Result Message Refusal) → is_good (cond a (no_message LENGTH) (cond b (no_message TYPE) (cond c x (no_message LENGTH)))) ≡ true
     → (a ≡ false) × (c ≡ true) × (is_good x ≡ true)
 passed true b c x e = absurd (false≢true e)
 passed false true c x e = absurd (false≢true e)
 passed false false false x e = absurd (false≢true e)
 passed false false true x e = (refl, refl, e)
 
-judged-good : (n : ℕ) (b : Bool) (m : Message) → is_good (cond b (Good m) (no_message n)) ≡ true → b ≡ true
+judged-good : (n : ℕ) (b : Bool) (m : Message) → is_good (cond b (Ok m) (no_message n)) ≡ true → b ≡ true
 judged-good n true m e = refl
 judged-good n false m e = absurd (false≢true e)
 
@@ -42,7 +41,7 @@ formed s e =
     record {
       some = omega arith;
       sized = eqb-true _ _ p.1;
-      faultless = eqb-true _ _ (judged-good _ _ _ p.2);
+      faultless = eqb-true _ _ (judged-good (refusal s (cells_of (type_of s))) _ _ p.2);
     }
 
 -- ---- the Stock field

@@ -1,14 +1,11 @@
 -- What the symbol question answers, in 01's words: the place is where the Stock field's letters stand, followed by spaces to the
 -- field's end, exactly where the directory and the message are as 01 asks; else it is the empty part. Assumes nothing.
-use Rattle.std.specs.Prelude.{ℕ, ◌+◌, ◌≤◌, ◌<◌, ◌≡◌, refl, ◌↔◌, true, false, ◌&&◌, List, leb, length, get_or}
+use Rattle.std.specs.Prelude.{ℕ, ◌+◌, ◌≤◌, ◌<◌, ◌≡◌, refl, ◌↔◌, true, false, ◌&&◌, List, leb, length, get_or, Result, Some, Ok, Err}
 use Rattle.std.proofs.Common.{ap, ⊎_elim, arith, eq-eqb, leb-true, le-leb}
 use Rattle.std.proofs.lemmas.Bool.{false≢true}
 use Rattle.laws.specs.Bools.{cases, and_left, and_right}
-use Rattle.messages.specs.declared.Answer.{Answer}
-use Rattle.messages.specs.declared.Answer.TheVariants.{Good, Refused}
 use Rattle.messages.specs.declared.Message.{Message}
 use Rattle.reader.specs.Read.{type_of, answer}
-use Rattle.directory.specs.declared.Entry.TheVariants.{Symbol}
 use Rattle.directory.specs.Directory.{DirectoryLength, good_length, entry_at, is_symbol}
 use Rattle.directory.specs.DirectoryLaws.{length_means, symbol_is}
 use Rattle.symbol.specs.declared.Part.{Part}
@@ -16,13 +13,14 @@ use Rattle.symbol.specs.Symbol.{stock_at, locate_of, stock_of, is_good, is_named
 use Rattle.symbol.specs.Stocks.{stock_fits}
 use Rattle.symbol.specs.Unpadded.{Unpadded, unpadded-le, unpadded_means}
 use Rattle.symbol.specs.Formed.{formed, stock-text}
+use Rattle.refusals.specs.declared.Refusal.{Refusal}
 
 -- the directory's length is right, and the message is well formed, has a Stock field, and its locate is registered with that symbol
 pub record Named (d s : List ℕ) : Type 0 where
   pub directory : DirectoryLength (length d)
-  pub read : (m : Message) × (answer s ≡ Good m)
+  pub read : (m : Message) × (answer s ≡ Ok m)
   pub stock : 1 ≤ stock_at (type_of s)
-  pub registered : entry_at d (locate_of s) ≡ Symbol (stock_of s)
+  pub registered : entry_at d (locate_of s) ≡ Some (stock_of s)
 
 -- the part p of the message s is its symbol: it starts where the Stock field starts, and of that field's 8 bytes, which lie inside the
 -- message, the part's are letters, at least one, and all others are spaces
@@ -33,9 +31,9 @@ pub record Stands (s : List ℕ) (p : Part) : Type 0 where
 
 -- ---- the tests
 
-good-answer : (a : Answer) → is_good a ≡ true → (m : Message) × (a ≡ Good m)
-good-answer (Good m) e = (m, refl)
-good-answer (Refused r) e = absurd (false≢true e)
+good-answer : (a : Result Message Refusal) → is_good a ≡ true → (m : Message) × (a ≡ Ok m)
+good-answer (Ok m) e = (m, refl)
+good-answer (Err r) e = absurd (false≢true e)
 
 is_named_lem : (d s : List ℕ) → is_named d s ≡ true → Named d s
 unfolding is_named

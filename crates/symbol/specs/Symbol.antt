@@ -1,17 +1,17 @@
 -- THE DEFINITION of the symbol question (01, 'What the desk may ask', the last): the unpadded symbol is a part of the message. It is
 -- the empty part unless the directory's length is right and the message is well formed, has a Stock field, and its locate (from 1)
 -- is registered with that symbol. A part is said by its place: where in the message it starts, and how long it is. Assumes nothing.
-use Rattle.std.specs.Prelude.{ℕ, zero, suc, ◌+◌, ◌/◌, ◌%◌, ◌≡◌, Bool, true, false, cond, ◌&&◌, List, [], ◌∷◌, eqb, leb, length, take, drop}
+use Rattle.std.specs.Prelude.{ℕ, zero, suc, ◌+◌, ◌/◌, ◌%◌, ◌≡◌, Bool, true, false, cond, ◌&&◌, List, [], ◌∷◌, eqb, leb, length, take, drop, Result, Ok, Err}
 use Rattle.std.specs.Borrow.{Bor}
 use Rattle.laws.specs.Field.{field}
 use Rattle.layout.specs.Kind.{Kind, Cell}
 use Rattle.layout.specs.Kind.Kind.{number, time, shares, price4, price8, texts, side, printable, code, alpha, reserved}
 use Rattle.layout.specs.Layout.{cells_of}
-use Rattle.messages.specs.declared.Answer.{Answer}
-use Rattle.messages.specs.declared.Answer.TheVariants.{Good, Refused}
 use Rattle.reader.specs.Read.{type_of, answer}
 use Rattle.directory.specs.Directory.{good_length, entry_at, is_symbol}
 use Rattle.symbol.specs.declared.Part.{Part}
+use Rattle.messages.specs.declared.Message.{Message}
+use Rattle.refusals.specs.declared.Refusal.{Refusal}
 
 abbrev pub is_text : Kind → Bool
 is_text texts = true
@@ -46,9 +46,9 @@ locate_of s = field s 1 2
 abbrev pub stock_of : List ℕ → ℕ
 stock_of s = field s (stock_at (type_of s)) 8
 
-abbrev pub is_good : Answer → Bool
-is_good (Good m) = true
-is_good (Refused r) = false
+abbrev pub is_good : Result Message Refusal → Bool
+is_good (Ok m) = true
+is_good (Err r) = false
 
 -- the directory's length is right and the message is well formed, has a Stock field, and its locate is registered with that symbol
 unfoldable pub is_named : List ℕ → List ℕ → Bool

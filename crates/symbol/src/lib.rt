@@ -6,18 +6,16 @@ ghost use Rattle.reader.specs.Read.{answer};
 ghost use Rattle.directory.specs.Directory.{entry_at, is_symbol};
 ghost use Rattle.symbol.specs.Symbol.{IsPart, is_good, stock_at, symbol_part, unpadded};
 
-use directory::Entry;
 use kinds::Locate;
-use messages::Answer;
 
-// A part of a message: where it starts, and how many bytes it has. The empty part starts at 0.
+// A part of a message: where it starts, and how many bytes it has, the two numbers that the C call gives. The empty part starts at 0.
 #[derive(Drop)]
 pub struct Part {
     pub start: usize,
     pub len: usize,
 }
 
-// Where a type's Stock field starts; 0 for a type without one, and for a byte that is no type.
+// Where a type's Stock field starts; 0 for a type without one, and for a byte that is no type, as the definition has it (`stock_at`).
 fn stock_at(t: u8) -> usize
     ensures { result ≡ stock_at t }
 {
@@ -45,13 +43,11 @@ fn unpadded_len(symbol: u64) -> usize
     ensures { result ≡ unpadded 8 symbol }
 {
     let mut rest = symbol;
-    let mut n: usize = 8;
-    while n > 0 {
+    for n in (1..=8).rev() {
         if rest % 256 != 32 {
             return n;
         }
-        rest = rest / 256;
-        n -= 1;
+        rest /= 256;
     }
     0
 }
@@ -59,22 +55,14 @@ fn unpadded_len(symbol: u64) -> usize
 fn is_well_formed(message: &[u8]) -> bool
     ensures { result ≡ is_good (answer message.now) }
 {
-    let answer = reader::read(message);
-    let Answer::Good(_) = answer else {
-        return false;
-    };
-    true
+    reader::read(message).is_ok()
 }
 
 // Whether a symbol is registered at a locate.
 fn is_registered(directory: &[u64], locate: Locate, symbol: u64) -> bool
     ensures { result ≡ is_symbol symbol (entry_at directory.now locate.0) }
 {
-    let entry = directory::entry_at(directory, locate);
-    let Entry::Symbol(registered) = entry else {
-        return false;
-    };
-    registered == symbol
+    directory::entry_at(directory, locate) == Some(symbol)
 }
 
 // Where in the message its unpadded symbol stands: the empty part unless the directory's length is right and the message is well

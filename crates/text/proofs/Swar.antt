@@ -121,6 +121,10 @@ pub record Tests (n v : ℕ) : Type 0 where
 pub sums_fit : (w v : ℕ) → v < 256 ^ w → bit_and v (rep 128 w) ≡ 0 → v ≤ rep 127 w
 sums_fit w v h e = low_le w v h (sym (and-marks w v) ∙ e)
 
+pub eight_fit : (v : ℕ) → v < 18446744073709551616 → bit_and v 9259542123273814144 ≡ 0 → v ≤ 9187201950435737471
+unfolding rep
+eight_fit = sums_fit 8
+
 text_tests : (n v : ℕ) → text (suc n) v ≡ true → Tests n v
 text_tests n v e =
     let p = text-passes n v e in

@@ -1,49 +1,35 @@
 -- What the search and the slot answered fixes what is seen, and each way through is its answer. Assumes nothing.
-use mathlib.Core.Path.{sym, ap, ◌∙◌}
+use Rattle.std.specs.Prelude.{Ok}
+use mathlib.Core.Path.{refl, sym, ap, ◌∙◌}
 use native.Mathlib.Omega.{arith}
 use Rattle.book.specs.Finds.{found_slot}
-use Rattle.book.specs.Shape.{words_sized}
 use Rattle.slots.specs.HeldLaws.{gone_fits}
-use Rattle.accounts.specs.declared.Accounted.TheVariants.{Is}
 use Rattle.accounts.proofs.Laws.{shapeless, missing, unsound, known}
 use Rattle.accounts.proofs.order.Goals as goal
 
-pub returns-then-k-eq0 : goal.returns-then-k-eq0
-returns-then-k-eq0 c =
-    let a = c.args in
-    shapeless a.book.now a.reference.0 _ _ c.words_of-k.ensures (omega (arith, c.if-k-eq0.true)) c.refuse.ensures
-
-pub find-found-requires : goal.find-found-requires
-find-found-requires c =
-    let a = c.args in
-    words_sized a.book.now _ (sym c.words_of-k.ensures) (omega (arith, c.if-k-eq0.false))
-
 pub returns-in_default : goal.returns-in_default
-returns-in_default c =
-    let a = c.args in
-    missing a.book.now a.reference.0 _ _ c.words_of-k.ensures (omega (arith, c.if-k-eq0.false))
-    (sym c.find-found.ensures ∙ c.in_default.is) c.refuse-in_default.ensures
+returns-in_default c = shapeless c.args.book.now c.args.reference.0 0 _ (sym c.in_default.ensures.shapeless) refl refl
 
-pub held_at-held-requires : goal.held_at-held-requires
-held_at-held-requires c =
-    let a = c.args in (
-      words_sized a.book.now _ (sym c.words_of-k.ensures) (omega (arith, c.if-k-eq0.false)),
-      (found_slot a.book.now _ a.reference.0 c.in-At.slot (sym c.find-found.ensures ∙ c.in-At.is)).0,
-    )
+pub returns-in_default-find : goal.returns-in_default-find
+returns-in_default-find c =
+    let s = c.in-Some.ensures.shaped in
+    missing c.args.book.now c.args.reference.0 _ _ s.1 (omega (arith, s.2))
+    (sym (rw s.0 at c.find.ensures) ∙ c.in_default-find.is) refl
 
-pub returns-in_default-held : goal.returns-in_default-held
-returns-in_default-held c =
-    let a = c.args in
-    unsound a.book.now a.reference.0 _ _ c.in-At.slot c.words_of-k.ensures (omega (arith, c.if-k-eq0.false))
-    (sym c.find-found.ensures ∙ c.in-At.is) (sym c.held_at-held.ensures ∙ c.in_default-held.is) c.refuse-in_default-held.ensures
+pub held_at-requires : goal.held_at-requires
+held_at-requires c = (found_slot _ _ c.args.reference.0 c.in-Some-find.slot (sym c.find.ensures ∙ c.in-Some-find.is)).0
+
+pub returns-in_default-held_at : goal.returns-in_default-held_at
+returns-in_default-held_at c =
+    let s = c.in-Some.ensures.shaped in
+    unsound c.args.book.now c.args.reference.0 _ _ c.in-Some-find.slot s.1 (omega (arith, s.2))
+    (sym (rw s.0 at c.find.ensures) ∙ c.in-Some-find.is) (sym (rw s.0 at c.held_at.ensures) ∙ c.in_default-held_at.is) refl
 
 pub account_of-requires : goal.account_of-requires
-account_of-requires c =
-    let a = c.args in
-    gone_fits a.book.now _ _ c.in-Sound.o (sym c.held_at-held.ensures ∙ c.in-Sound.is)
+account_of-requires c = gone_fits _ _ _ c.in-Some-held_at.o (sym c.held_at.ensures ∙ c.in-Some-held_at.is)
 
 pub returns : goal.returns
 returns c =
-    let a = c.args in
-    known a.book.now a.reference.0 _ _ c.in-At.slot c.in-Sound.o c.words_of-k.ensures (omega (arith, c.if-k-eq0.false))
-    (sym c.find-found.ensures ∙ c.in-At.is) (sym c.held_at-held.ensures ∙ c.in-Sound.is) (ap Is c.account_of.ensures)
+    let s = c.in-Some.ensures.shaped in
+    known c.args.book.now c.args.reference.0 _ _ c.in-Some-find.slot c.in-Some-held_at.o s.1 (omega (arith, s.2))
+    (sym (rw s.0 at c.find.ensures) ∙ c.in-Some-find.is) (sym (rw s.0 at c.held_at.ensures) ∙ c.in-Some-held_at.is) (ap Ok c.account_of.ensures)

@@ -1,10 +1,7 @@
 -- The goals that the check leaves. Assumes nothing.
 use native.Mathlib.Omega.{arith}
-use Rattle.book.specs.Words.{word_whole, half, zero_at, no_zero}
+use Rattle.book.specs.Words.{half, zero_at, no_zero}
 use Rattle.book.proofs.free_in.Goals as goal
-
-pub loop-i-init : goal.loop-i-init
-loop-i-init c = word_whole _
 
 pub returns-then-rest-eq0 : goal.returns-then-rest-eq0
 returns-then-rest-eq0 c = zero_at _ _ _ c.loop-i.invariant c.loop-i-test.true (omega (arith, c.if-rest-eq0.true))

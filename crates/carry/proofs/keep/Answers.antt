@@ -1,19 +1,22 @@
--- Each way is what the two tests decide. Assumes nothing.
-use native.Mathlib.Omega.{arith}
-use Rattle.carry.proofs.Laws.{keeps_crossed, keeps_beyond, keeps_there}
+-- Where there are no such bytes nothing changes; else they are moved one by one. Assumes nothing.
+use Rattle.std.proofs.Common.{◌≡◌, ◌-◌, arith}
+use Rattle.carry.proofs.Laws.{keeps_crossed, keeps_beyond, keeps_there, one_more}
+use Rattle.carry.proofs.keep.Goals.{then-from-to-via-then-from-to, then-from-to-via-else-from-to+then-to-buffer}
 use Rattle.carry.proofs.keep.Goals as goal
 
 pub returns-then-from-to : goal.returns-then-from-to
 returns-then-from-to c =
-    let a = c.args in
-    keeps_crossed a.buffer.now a.from a.to (omega arith)
+    elim c.then-from-to.branch [
+      | then-from-to-via-then-from-to w ↦ keeps_crossed _ _ _ w.if-from-to.true
+      | then-from-to-via-else-from-to+then-to-buffer w ↦
+          let h = w.if-from-to.false in
+          keeps_beyond _ _ _ (omega arith) w.if-to-buffer.true
+    ]
 
-pub returns-then-to-buffer : goal.returns-then-to-buffer
-returns-then-to-buffer c =
-    let a = c.args in
-    keeps_beyond a.buffer.now a.from a.to (omega arith) (omega arith)
+pub loop-i-preserved : goal.loop-i-preserved
+loop-i-preserved c = rw c.loop-i.invariant (one_more c.args.buffer.now c.args.from c.loop-i.i (omega arith))
 
 pub returns : goal.returns
 returns c =
-    let a = c.args in
-    keeps_there a.buffer.now a.from a.to _ (omega arith) (omega arith) c.forward.ensures
+    let e : c.loop-i.i ≡ c.args.to - c.args.from = omega arith in
+    keeps_there _ _ _ _ (omega arith) (omega arith) (rw e at c.loop-i.invariant)

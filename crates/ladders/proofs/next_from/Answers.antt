@@ -1,27 +1,27 @@
 -- The goals that the check leaves. Assumes nothing.
-use mathlib.Core.Path.{refl, sym, ◌∙◌}
+use Rattle.std.specs.Prelude.{Ok}
+use mathlib.Core.Path.{sym, ap, ◌∙◌}
 use Rattle.ladders.proofs.Laws.{search_done, search_refused, search_on, search_found}
 use Rattle.ladders.proofs.next_from.Goals as goal
 
-pub returns-in-Refused : goal.returns-in-Refused
-returns-in-Refused c =
+pub returns-in_default : goal.returns-in_default
+returns-in_default c =
     let l = c.loop-rung in
-    search_refused _ l.rung _ _ (sym c.quote_at-quote.ensures ∙ c.in-Refused.is) ∙ l.invariant
+    rw (← c.first_of-to.ensures) (search_refused _ l.rung _ _ (sym c.quote_at.ensures ∙ c.in_default.is) ∙ l.invariant)
 
-pub returns-in-Stands : goal.returns-in-Stands
-returns-in-Stands c =
+pub returns-in-Some : goal.returns-in-Some
+returns-in-Some c =
     let l = c.loop-rung in
-    let a = c.args in
-    search_found _ l.rung a.locates _ _ c.loop-rung-test.true
-    (sym c.quote_at-quote.ensures ∙ c.in-Stands.is) c.rung_at.ensures ∙ l.invariant
+    let e = sym c.quote_at.ensures ∙ c.in-Ok.is ∙ ap Ok c.in-Some.is in
+    rw (← c.first_of-to.ensures)
+    (search_found _ l.rung _ _ _ _ c.first_of-to.ensures c.loop-rung-test.true e c.rung_at.ensures ∙ l.invariant)
 
 pub loop-rung-preserved : goal.loop-rung-preserved
 loop-rung-preserved c =
     let l = c.loop-rung in
-    search_on _ l.rung _ (sym c.quote_at-quote.ensures ∙ c.in-Nothing.is) ∙ l.invariant
+    search_on _ l.rung _ (sym c.quote_at.ensures ∙ c.in-Ok.is ∙ ap Ok c.in_default-quote.is) ∙ l.invariant
 
 pub returns : goal.returns
-returns c = search_done _ c.loop-rung.rung _ c.loop-rung-test.false ∙ c.loop-rung.invariant
-
-pub loop-rung-init : goal.loop-rung-init
-loop-rung-init c = refl
+returns c =
+    let l = c.loop-rung in
+    rw (← c.first_of-to.ensures) (search_done _ l.rung _ c.loop-rung-test.false ∙ l.invariant)

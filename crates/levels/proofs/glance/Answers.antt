@@ -9,7 +9,7 @@ use Rattle.levels.proofs.glance.Goals as goal
 pub returns : goal.returns
 unfolding held_at
 returns c =
-    let n0 = number_at c.args.book.now c.args.k c.args.slot.0 0 in
+    let n0 = number_at c.args.book.numbers.now c.args.book.k c.args.slot.0 0 in
     c.weigh.ensures n0
     ∙ ap (glanced c.args.w c.args.most)
     (λ i. held n0 (c.number_at-n1.ensures i) (c.number_at-n2.ensures i) (c.number_at-n3.ensures i))

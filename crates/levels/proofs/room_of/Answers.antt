@@ -7,8 +7,8 @@ use Rattle.levels.proofs.room_of.Goals as goal
 pub returns-then-end-from : goal.returns-then-end-from
 unfolding room_of
 returns-then-end-from c =
-    rw (← room-end _ _ _ _ _ c.lesser-to.ensures c.lesser-past.ensures c.lesser-end.ensures) (omega (arith, c.if-end-from.true))
+    rw (← room-end _ _ _ _ _ c.min-to.ensures c.min-past.ensures c.min-end.ensures) (omega (arith, c.if-end-from.true))
 
 pub returns : goal.returns
 unfolding room_of
-returns c = rw (← room-end _ _ _ _ _ c.lesser-to.ensures c.lesser-past.ensures c.lesser-end.ensures) refl
+returns c = rw (← room-end _ _ _ _ _ c.min-to.ensures c.min-past.ensures c.min-end.ensures) refl

@@ -6,7 +6,7 @@ use Rattle.levels.specs.Sweep as sweep
 use Rattle.levels.proofs.scan_word.Given as goal
 
 abbrev pub invariant-loop-m : goal.invariant-loop-m
-invariant-loop-m l = sweep.Sweep l.w l.book l.k l.j l.now l.m × (l.room ≡ room_of l.w l.now.ticks)
+invariant-loop-m l = sweep.Sweep l.w l.book.numbers.now l.book.k l.j l.now l.m × (l.room ≡ room_of l.w l.now.ticks)
 
 abbrev pub decreases-loop-m : goal.decreases-loop-m
 decreases-loop-m l = l.m

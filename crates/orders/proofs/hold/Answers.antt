@@ -1,11 +1,9 @@
 -- Each test that fails is one that `sound` asks, and past them all the slot passes: the order is then made of what was read.
 -- Assumes nothing.
 use native.Mathlib.Omega.{arith}
-use mathlib.Core.Path.{◌≡◌, sym, ◌∙◌}
+use mathlib.Core.Path.{sym, ◌∙◌}
 use Prim.Native.Nat.{◌/◌}
 use Rattle.laws.specs.Bools.{true_not_false}
-use Rattle.kinds.specs.Admission.{admission}
-use Rattle.kinds.specs.declared.Admission.TheVariants.{Admitted, TooHigh}
 use Rattle.orders.specs.Order.{order_of}
 use Rattle.orders.specs.Soundness.{Passes, admitted, not_admitted, passes-held, fails_held}
 use Rattle.orders.proofs.hold.Goals as goal
@@ -13,8 +11,7 @@ use Rattle.orders.proofs.hold.Goals as goal
 pub returns-in_default : goal.returns-in_default
 returns-in_default c =
     let a = c.args in
-    let told : TooHigh ≡ admission (a.n1 / 4294967296) = cc c.in_default.is in
-    sym (fails_held a.n0 a.n1 a.n2 a.n3 (λ p. omega (arith, not_admitted (a.n1 / 4294967296) told)))
+    sym (fails_held a.n0 a.n1 a.n2 a.n3 (λ p. omega (arith, not_admitted (a.n1 / 4294967296) _ (sym c.in_default.is ∙ c.try_from.ensures))))
 
 pub returns-then-locate-eq0 : goal.returns-then-locate-eq0
 returns-then-locate-eq0 c =
@@ -45,8 +42,7 @@ pub returns : goal.returns
 unfolding order_of
 returns c =
     let a = c.args in
-    let told : Admitted c.in-Admitted.price ≡ admission (a.n1 / 4294967296) = cc c.in-Admitted.is in
-    let price = admitted (a.n1 / 4294967296) c.in-Admitted.price told in
+    let price = admitted (a.n1 / 4294967296) c.in-Ok.price (sym c.in-Ok.is ∙ c.try_from.ensures) in
     let passes : Passes a.n1 a.n2 a.n3 = record {
       price = price.0;
       locate = omega arith;

@@ -5,17 +5,17 @@ use Rattle.reader.specs.ReadLaws.{no_bytes, unknown_type, wrong-length, right_le
 use Rattle.reader.proofs.read.Goals as goal
 
 pub returns-then-s-eq0 : goal.returns-then-s-eq0
-returns-then-s-eq0 c = c.refuse.ensures ∙ sym (no_bytes c.args.s.now (omega arith))
+returns-then-s-eq0 c = sym (no_bytes c.args.s.now (omega arith))
 
 pub returns-then-n-eq0 : goal.returns-then-n-eq0
 returns-then-n-eq0 c =
     let s = c.args.s.now in
-    c.refuse-then-n-eq0.ensures ∙ sym (unknown_type s (omega arith) (omega arith))
+    sym (unknown_type s (omega arith) (omega arith))
 
 pub returns-then-s-n : goal.returns-then-s-n
 returns-then-s-n c =
     let s = c.args.s.now in
-    c.refuse-then-s-n.ensures ∙ sym (wrong-length s (omega arith) (omega arith) (omega arith))
+    sym (wrong-length s (omega arith) (omega arith) (omega arith))
 
 pub returns : goal.returns
 returns c =

@@ -15,5 +15,5 @@ returns c =
     let l = a.out.now in
     let size : length l ≡ 10 = omega arith in
     let b1 = part 9 a.message (start 10 l size) (lit≤ tt) (lit≤ tt) c.big_endian.ensures in
-    let whole = part 10 a.refusal b1 (lit≤ tt) (lit≤ tt) c.big_endian-2.ensures in
-    headed l size (lit< tt) whole (simp append_assoc)
+    let whole = part 10 _ b1 (lit≤ tt) (lit≤ tt) c.big_endian-2.ensures in
+    headed l size (lit< tt) whole (simp (c.from.ensures, append_assoc))

@@ -6,7 +6,7 @@ use Rattle.book.specs.Words.{in_word}
 use Rattle.search.proofs.find_sparse.Given as goal
 
 abbrev pub invariant-loop-m : goal.invariant-loop-m
-invariant-loop-m l = scan.Scan (in_word l.book l.k l.want l.j) (get_or l.book l.j 0) l.m
+invariant-loop-m l = scan.Scan (in_word l.book.numbers.now l.book.k l.want l.j) (get_or l.book.numbers.now l.j 0) l.m
 
 abbrev pub decreases-loop-m : goal.decreases-loop-m
 decreases-loop-m l = l.m

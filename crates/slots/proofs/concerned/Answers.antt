@@ -1,37 +1,32 @@
 -- What was found and what the slot holds fix the concern. Assumes nothing.
-use borrow.Author.Tests.{eq-eqb, ne_eqb}
+use Rattle.std.proofs.lemmas.Bool.{not-false, not-true}
 use mathlib.Core.Path.{sym, ◌∙◌}
-use native.Mathlib.Omega.{arith}
 use Rattle.slots.specs.Concerned.{concern_of}
 use Rattle.slots.proofs.concerned.Goals as goal
 
 pub returns-in_default : goal.returns-in_default
 unfolding concern_of
-returns-in_default c = rw (c.in_default.is, c.of.ensures)
+returns-in_default c = rw c.in_default.is
 
-pub held_at-held-requires : goal.held_at-held-requires
-held_at-held-requires c =
-    let pre = c.requires in
-    (pre.0, rw c.in-At.is at pre.1)
+pub held_at-requires : goal.held_at-requires
+held_at-requires c =
+    let within = c.requires in
+    rw c.in-Some.is at within
 
-pub returns-in_default-held : goal.returns-in_default-held
+pub returns-in_default-held_at : goal.returns-in_default-held_at
 unfolding concern_of
-returns-in_default-held c =
-    let h = sym c.held_at-held.ensures ∙ c.in_default-held.is in
-    rw (c.in-At.is, h, c.of-in_default-held.ensures)
+returns-in_default-held_at c =
+    let h = sym c.held_at.ensures ∙ c.in_default-held_at.is in
+    rw (c.in-Some.is, h)
 
-pub returns-then-own-locate : goal.returns-then-own-locate
+pub returns-then-ne : goal.returns-then-ne
 unfolding concern_of
-returns-then-own-locate c =
-    let h = sym c.held_at-held.ensures ∙ c.in-Sound.is in
-    let own = c.in-Sound.o.locate.0 in
-    let its = c.args.locate.0 in
-    rw (c.in-At.is, h, c.of-then-own-locate.ensures, ne_eqb own its (λ e. omega (arith, c.if-own-locate.true)))
+returns-then-ne c =
+    let h = sym c.held_at.ensures ∙ c.in-Some-held_at.is in
+    rw (c.in-Some.is, h, not-true _ (sym c.ne.ensures ∙ c.if-ne.true))
 
 pub returns : goal.returns
 unfolding concern_of
 returns c =
-    let h = sym c.held_at-held.ensures ∙ c.in-Sound.is in
-    let own = c.in-Sound.o.locate.0 in
-    let its = c.args.locate.0 in
-    rw (c.in-At.is, h, eq-eqb own its (omega (arith, c.if-own-locate.false)))
+    let h = sym c.held_at.ensures ∙ c.in-Some-held_at.is in
+    rw (c.in-Some.is, h, not-false _ (sym c.ne.ensures ∙ c.if-ne.false))

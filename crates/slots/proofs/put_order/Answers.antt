@@ -2,6 +2,6 @@
 use Rattle.slots.specs.Stored.{put_order}
 use Rattle.slots.proofs.put_order.Goals as goal
 
-pub returns : goal.returns
+pub returns-clause-put : goal.returns-clause-put
 unfolding put_order
-returns c = cc
+returns-clause-put c = cc

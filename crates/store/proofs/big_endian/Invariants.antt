@@ -2,14 +2,9 @@
 -- Assumes nothing.
 use mathlib.Core.Path.{◌≡◌}
 use mathlib.Core.List.{◌++◌}
-use Prim.Native.Nat.{◌≤◌}
 use lib.ListN.{length, drop}
 use Rattle.store.specs.Store.{big_endian}
 use Rattle.store.proofs.big_endian.Given as goal
 
 abbrev pub invariant-loop-i : goal.invariant-loop-i
-invariant-loop-i l =
-    (l.i ≤ length l.initial.part) × ((length l.part ≡ length l.initial.part) × (big_endian (length l.initial.part) l.value ≡ big_endian l.i l.rest ++ drop l.i l.part))
-
-abbrev pub decreases-loop-i : goal.decreases-loop-i
-decreases-loop-i l = l.i
+invariant-loop-i l = big_endian (length l.initial.part) l.value ≡ big_endian l.i l.rest ++ drop l.i l.part

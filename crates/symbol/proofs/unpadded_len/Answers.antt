@@ -1,11 +1,7 @@
 -- The goals that the check leaves. Assumes nothing.
 use native.Mathlib.Omega.{arith}
-use mathlib.Core.Path.{refl}
 use Rattle.symbol.proofs.Laws.{one_less, counted, all_spaces}
 use Rattle.symbol.proofs.unpadded_len.Goals as goal
-
-pub loop-n-init : goal.loop-n-init
-loop-n-init c = refl
 
 pub returns-then-rest-ne32 : goal.returns-then-rest-ne32
 returns-then-rest-ne32 c =

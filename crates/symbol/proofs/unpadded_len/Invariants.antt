@@ -5,6 +5,3 @@ use Rattle.symbol.proofs.unpadded_len.Given as goal
 
 abbrev pub invariant-loop-n : goal.invariant-loop-n
 invariant-loop-n l = unpadded 8 l.symbol ≡ unpadded l.n l.rest
-
-abbrev pub decreases-loop-n : goal.decreases-loop-n
-decreases-loop-n l = l.n

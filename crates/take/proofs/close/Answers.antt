@@ -5,16 +5,16 @@ use Rattle.take.proofs.Laws.{closed_all}
 use Rattle.take.proofs.close.Goals as goal
 
 pub remaining-shares-requires : goal.remaining-shares-requires
-remaining-shares-requires c = gone_fits _ _ _ _ c.requires.2
+remaining-shares-requires c = gone_fits _ _ _ _ c.requires.1
 
 pub closed-end-requires : goal.closed-end-requires
-closed-end-requires c = gone_fits _ _ _ _ c.requires.2
+closed-end-requires c = gone_fits _ _ _ _ c.requires.1
 
 pub remaining-requires : goal.remaining-requires
 remaining-requires c =
-    closed_fits _ _ (gone_fits _ _ _ _ c.requires.2) c.closed-end.ensures
+    closed_fits _ _ (gone_fits _ _ _ _ c.requires.1) c.closed-end.ensures
 
-pub returns : goal.returns
-returns c =
+pub returns-clause-closes : goal.returns-clause-closes
+returns-clause-closes c =
     closed_all _ _ _ _ _ _ _ _ c.remaining-shares.ensures c.closed-end.ensures c.remaining.ensures c.figured.ensures
-    c.clear_slot.ensures
+    c.clear.ensures.cleared

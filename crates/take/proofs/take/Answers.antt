@@ -1,17 +1,20 @@
 -- A refusal is the verdict's, and what comes of the order that is here is what comes of the message. Assumes nothing.
+use Rattle.std.proofs.lemmas.Result.{err_from_is_err_and}
 use mathlib.Core.Path.{sym, ◌∙◌}
 use Rattle.slots.specs.ConcernedLaws.{turned-away, here, let_through, in_slot}
 use Rattle.take.proofs.take.Goals as goal
 
 pub take_from-requires : goal.take_from-requires
 take_from-requires c =
-    in_slot _ _ _ _ _ _ (here _ _ _ _ _ _ (sym c.in-Here.is ∙ c.concerned-concern.ensures)) c.requires
+    let h = in_slot _ _ _ _ _ _ (here _ _ _ _ _ _ (sym c.in_ok-slot.was ∙ (rw (c.look.ensures.0, c.look.ensures.1) at c.concerned.ensures))) (c.args.book.now.sized, c.requires) in
+    (h.1, h.2)
 
-pub returns-in-Refused : goal.returns-in-Refused
-returns-in-Refused c =
-    turned-away _ _ _ _ _ _ (sym c.in-Refused.is ∙ c.concerned-concern.ensures)
+pub returns-in_err-slot-clause-takes : goal.returns-in_err-slot-clause-takes
+returns-in_err-slot-clause-takes c =
+    let p = err_from_is_err_and c.from_residual.result c.from_residual.ensures.1 in
+    rw (p.1, p.2) (turned-away _ _ _ _ _ _ (sym c.in_err-slot.was ∙ (rw (c.look.ensures.0, c.look.ensures.1) at c.concerned.ensures)))
 
-pub returns-in-Here : goal.returns-in-Here
-returns-in-Here c =
-    let_through _ _ _ _ _ _ _ _ _ (here _ _ _ _ _ _ (sym c.in-Here.is ∙ c.concerned-concern.ensures))
-    c.take_from.ensures
+pub returns-clause-takes : goal.returns-clause-takes
+returns-clause-takes c =
+    let_through _ _ _ _ _ _ _ _ _ (here _ _ _ _ _ _ (sym c.in_ok-slot.was ∙ (rw (c.look.ensures.0, c.look.ensures.1) at c.concerned.ensures)))
+    c.take_from.ensures.takes
