@@ -1,7 +1,7 @@
 -- The book's slots a map number at a time: slot i of map number j is slot 64 j + i. A search that goes up by map numbers
 -- has shown what `find` and `lowest_free` answer. Assumes nothing.
 use Rattle.std.specs.Prelude.{◌≡◌, Bool, true, false, List, ℕ, ◌+◌, ◌-◌, ◌*◌, ◌/◌, ◌%◌, ◌^◌, ◌≤◌, ◌<◌, eqb, get_or, Some}
-use Rattle.std.proofs.Common.{sym, ap, ◌∙◌, subst, ⊎_elim, le_refl, le_of_lt, lt_irrefl, pow-suc, add-one, arith, below_more, eq-eqb, ne_eqb}
+use Rattle.std.proofs.Common.{sym, ap, ◌∙◌, subst, ⊎_elim, le_refl, le_of_lt, lt_irrefl, div-one, pow-suc, add-one, arith, below_more, below_none, eq-eqb, ne_eqb}
 use Rattle.std.proofs.Math.Nat.{div-div-eq-div-mul}
 use Rattle.laws.specs.Least.{least_is, least_none, least_at, least_ext, lt-or-le}
 use Rattle.laws.specs.Definitions.{bit, least}
@@ -107,6 +107,9 @@ pub record Halved (w i rest : ℕ) : Type 0 where
   pub below : i ≤ 64
   pub rests : rest ≡ w / 2 ^ i
   pub ones : (t : ℕ) → t < i → is_zero w t ≡ false
+
+pub word_whole : (w : ℕ) → Halved w 0 w
+word_whole w = record { below = omega arith; rests = sym (div-one w); ones = below_none (λ t. is_zero w t ≡ false) }
 
 halving : (w i : ℕ) → w / 2 ^ i / 2 ≡ w / 2 ^ (i + 1)
 halving w i = div-div-eq-div-mul w (2 ^ i) 2 ∙ ap (λ (x : ℕ). w / x) (sym (rw add-one (pow-suc 2 i)))

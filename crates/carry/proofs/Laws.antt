@@ -1,40 +1,16 @@
--- One more byte moved to the front: it is read behind those that were written, where the buffer is as it was. Assumes nothing.
+-- What keeping comes to, case by case. Assumes nothing.
 use mathlib.Core.Path.{◌≡◌, refl, ap}
 use mathlib.Core.List.{List, ◌++◌}
 use native.Mathlib.Omega.{arith}
-use Prim.Native.Nat.{ℕ, suc, ◌+◌, ◌-◌, ◌≤◌, ◌<◌}
+use Prim.Native.Nat.{ℕ, ◌+◌, ◌-◌, ◌≤◌, ◌<◌}
+use Rattle.std.specs.List.{copy_within}
 use Rattle.carry.specs.Carry.{between, carried, kept_length}
 use borrow.Author.Tests.{le-leb, lt-leb}
-use lib.ListN.{length, take, drop, set, get_or, length-drop}
-use lib.Seq.{length-take-le, take-suc, drop-cons, append_snoc, set_at, get_or-append-add, get_or-drop}
+use lib.ListN.{length, drop}
 
--- i bytes moved
-abbrev pub moved : List ℕ → ℕ → ℕ → List ℕ
-moved b from i = take i (drop from b) ++ drop i b
-
-pub length_front : (b : List ℕ) (from i : ℕ) → from + i ≤ length b → length (take i (drop from b)) ≡ i
-length_front b from i h = length-take-le i (drop from b) (rw (length-drop from b) (omega arith))
-
-pub next_byte : (b : List ℕ) (from i : ℕ) → from + i ≤ length b → get_or (moved b from i) (from + i) 0 ≡ get_or (drop from b) i 0
-next_byte b from i h =
-    let p = take i (drop from b) in
-    let at : from + i ≡ length p + from = omega (arith, length_front b from i h) in
-    rw (at, get_or-append-add p (drop i b) from 0, get_or-drop i b from 0, get_or-drop from b i 0) (ap (λ j. get_or b j 0) (omega arith))
-
-pub one_more : (b : List ℕ) (from i : ℕ) → from + i < length b → set (moved b from i) i (get_or (moved b from i) (from + i) 0) ≡ moved b from (i + 1)
-one_more b from i h =
-    let next : i + 1 ≡ suc i = omega arith in
-    let p = take i (drop from b) in
-    let x = get_or (drop from b) i 0 in
-    let there : i < length (drop from b) = rw (length-drop from b) (omega arith) in
-    rw (
-      next,
-      next_byte b from i (omega arith),
-      drop-cons b i 0 (omega arith),
-      take-suc (drop from b) i 0 there,
-      append_snoc p x (drop (suc i) b),
-    )
-    (set_at p (get_or b i 0) (drop (suc i) b) x i (length_front b from i (omega arith)))
+-- what the library moves is what is kept
+pub moved_within : (b : List ℕ) (from to : ℕ) → copy_within b from to 0 ≡ between b from to ++ drop (to - from) b
+moved_within b from to = let e : 0 + (to - from) ≡ to - from = omega arith in ap (λ n. between b from to ++ drop n b) e
 
 -- ---- what keeping comes to
 

@@ -12,17 +12,13 @@ pub fn front(s: &[u8], n: usize) -> &[u8]
     s.get(..n).unwrap_or(s)
 }
 
-// Keeps the bytes from `from` on and before `to`, and answers how many they are; where there are none such it changes nothing. std has
-// no `copy_within`.
+// Keeps the bytes from `from` on and before `to`, and answers how many they are; where there are none such it changes nothing.
 pub fn keep(buffer: &mut [u8], from: usize, to: usize) -> usize
     ensures { (result ≡ kept_length buffer.old from to) × (buffer.new ≡ carried buffer.old from to) }
 {
     if from > to || to > buffer.len() {
         return to;
     }
-    let kept = to - from;
-    for i in 0..kept {
-        buffer[i] = buffer[from + i];
-    }
-    kept
+    buffer.copy_within(from..to, 0);
+    to - from
 }

@@ -16,7 +16,7 @@ pub fn good_length(n: usize) -> bool
     2 <= n && n <= MOST_NUMBERS
 }
 
-// The symbol that stands at a locate, 0 where none is registered; none at a locate outside the directory.
+// The symbol that stands at a locate, 0 where none is registered (the table's own number); none at a locate outside the directory.
 pub fn entry_at(directory: &[u64], locate: Locate) -> Option<u64>
     ensures { result ≡ entry_at directory.now locate.0 }
 {

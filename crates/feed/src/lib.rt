@@ -26,7 +26,7 @@ pub struct Fed {
     pub tally: Tally,
 }
 
-// The paper's number of an outcome: 0 where the message is accepted.
+// The paper's number of an outcome: 0 where the message is accepted, as counts and records have it.
 fn number(o: Result<Outcome, Refusal>) -> u8
     ensures { result ≡ number_of o }
 {

@@ -69,7 +69,7 @@ fn rung_at(p: u64, price: u32) -> u64
     p / SIDE_RUNGS * SIDE_RUNGS + u64::from(ticks)
 }
 
-// The best level of a rung's side, not before the rung.
+// The best level of a rung's side, not before the rung: asked by the side's letter, as the desk asks.
 fn quote_at(book: &[u64], p: u64) -> Result<Option<Level>, Refusal>
     requires { p < 562949953421312 }
     ensures { result ≡ quote_at book.now p }
@@ -97,7 +97,7 @@ fn next_from(book: &[u64], from: u64, locates: u16) -> Option<(u64, Level)>
     None
 }
 
-// The record of a level behind the first `at` bytes of out, and where it ends.
+// The record of a level behind the first `at` bytes of out (lent, no Vec), and where it ends.
 fn put(p: u64, level: Level, out: &mut [u8], at: usize) -> usize
     requires { p < 562949953421312 }
     ensures { (result ≡ reach out.old at (record_row p level)) × (out.new ≡ appended out.old at (record_row p level)) }

@@ -43,6 +43,12 @@ module _ (w : Wanted) (b : List ℕ) (byte k : ℕ) (e : k ≡ words_of (length 
   unfolding scanned
   passed g p q = rw (← e) (rw (ne_eqb k 0 n, g, q))
 
+  pub asked_unsound : good_side byte ≡ true → visited w b k (64 * k) ≡ None → refusing Book ≡ scanned w b byte
+  asked_unsound g q = passed g None q
+
+  pub asked-seen : good_side byte ≡ true → (x : Best) → visited w b k (64 * k) ≡ Some x → Ok x ≡ scanned w b byte
+  asked-seen g x q = passed g (Some x) q
+
 -- ---- from what was asked to the answer
 
 -- a question's answer, by the tests of the book, of the side and of the slots

@@ -54,6 +54,10 @@ module _ (w : Wanted) (b : List ℕ) (k : ℕ) where
   unfolding visited
   visit_none = refl
 
+  -- all map numbers are passed
+  pub visit_all : (j : ℕ) (best : Best) → j ≤ k → k ≤ j → visited w b k (64 * j) ≡ Some best → Some best ≡ visited w b k (64 * k)
+  visit_all j best l h e = let q : 64 * j ≡ 64 * k = omega arith in sym e ∙ ap (visited w b k) q
+
 -- ---- the sums stay small
 
 pub record Small (n : ℕ) (x : Best) : Type 0 where

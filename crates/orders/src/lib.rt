@@ -8,6 +8,8 @@ ghost use Rattle.orders.specs.Order.{cancelled_by, closed_of, executed_by, fourt
 
 use kinds::{Locate, Price, Reference, Side};
 
+// An order's life in shares. (That the parts are no more than was added is asked by each step and not kept in the type: definitions make
+// orders of their fields alone.)
 #[derive(Clone, Copy)]
 pub struct Order {
     pub reference: Reference,
@@ -83,7 +85,7 @@ impl Order {
     }
 }
 
-// NSDQ, which most orders have, is known by one compare.
+// NSDQ, which most orders have, is known by one compare. (A fault of 0 or 1, as `text4` gives it.)
 fn attribution_fault(a: u32) -> u64
     ensures { result ≡ fault (text 4 a) }
 {

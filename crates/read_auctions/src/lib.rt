@@ -1,5 +1,5 @@
 // The messages about auctions and retail interest: I, N, O. Each is read at fixed offsets and checked,
-// and proved against its row of the table of fields.
+// and proved against its row of the table of fields. (N looks like Y of `read_stocks`, but makes another struct of another row.)
 #![tactic(auto)]
 
 ghost use Rattle.std.specs.Prelude.{◌≡◌, length};

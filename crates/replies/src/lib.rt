@@ -25,6 +25,7 @@ fn write_account(a: Account, out: &mut [u64; 8])
     ];
 }
 
+// (Four writers and no trait: each has a row of its own length, and other numbers where there is none.)
 pub fn account(a: Result<Account, Refusal>, out: &mut [u64; 8]) -> u8
     ensures { (result ≡ account_number a) × (out.new ≡ account_row a) }
 {

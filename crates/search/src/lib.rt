@@ -103,7 +103,7 @@ fn find_in(numbers: &[u64], k: usize, want: u64) -> Option<Slot>
     None
 }
 
-// The lowest live slot that holds the reference.
+// The lowest live slot that holds the reference. (Inlined, so that the book is never passed in memory.)
 #[inline(always)]
 pub fn find(book: Book<'_>, reference: Reference) -> Option<Slot>
     ensures { result ≡ find book.entry.numbers.now book.entry.k reference.0 }

@@ -12,7 +12,7 @@ use kinds::{Locate, Slot};
 use orders::Order;
 use refusals::Refusal;
 
-// What a slot holds.
+// What a slot holds. (That a slot is one of the book's is a fact of two values, so each function asks it.)
 pub fn held_at(book: Book<'_>, slot: Slot) -> Option<Order>
     requires { slot.0 < 64 * book.k }
     ensures { result ≡ held_at book.entry.numbers.now book.entry.k slot.0 }

@@ -4,7 +4,7 @@
 ghost use Rattle.std.specs.Prelude.{◌≡◌, length};
 ghost use Rattle.store.specs.Store.{big_endian};
 
-// The part's bytes become the number's lowest ones.
+// The part's bytes become the number's lowest ones: a part of any length, so no `to_be_bytes`.
 pub fn big_endian(part: &mut [u8], value: u64)
     ensures { part.new ≡ big_endian (length part.old) value }
 {

@@ -1,4 +1,4 @@
--- What a message that reads as Good is: as long as its type says, with no field at fault, so its Stock field is a text. Assumes nothing.
+-- What a message that is read is: as long as its type says, with no field at fault, so its Stock field is a text. Assumes nothing.
 use Rattle.std.specs.Prelude.{ℕ, ◌≤◌, ◌≡◌, refl, Bool, true, false, cond, not, ◌&&◌, ◌||◌, List, [], ◌∷◌, eqb, length, Result, Ok}
 use Rattle.std.proofs.Common.{subst, true≢false, arith, eqb-true}
 use Rattle.std.proofs.lemmas.Bool.{false≢true, eqb-false, not-false}

@@ -25,7 +25,7 @@ pub fn u32_at(s: &[u8], at: usize) -> u32
     u32::from_be_bytes([s[at], s[at + 1], s[at + 2], s[at + 3]])
 }
 
-// (No twin of u48_at: no number type has 48 bits.)
+// Two fields side by side, as u48_at, which has no number type of its own.
 pub fn u64_at(s: &[u8], at: usize) -> u64
     requires { at + 8 ≤ length s.now }
     ensures { result ≡ field s.now at 8 }
