@@ -27,7 +27,8 @@ fn conclude(m: Message, step: Step) -> Outcome
     }
 }
 
-// Applies one message to the directory and the book: 14, 1 to 6 and 7 to 13 are refused and change nothing.
+// Applies one message to the directory and the book: 14, 1 to 6 and 7 to 13 are refused and change nothing. (Two tables and
+// not one value of both, here and below: R changes the one, the others change the other.)
 pub fn apply(directory: &mut [u64], book: &mut [u64], bytes: &[u8]) -> Result<Outcome, Refusal>
     ensures { record { outcome = result; directory = directory.new; book = book.new } ≡ applied directory.old book.old bytes.now }
 {
