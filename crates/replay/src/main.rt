@@ -47,8 +47,8 @@ fn write(rt: &impl Print, records: &[u8]) -> Result<(), Failure> {
     rt.write_all(records).map_err(Failure::Output)
 }
 
-// Reads behind the bytes that are held, which never pass the buffer's end, and answers how many are held then; none at the end of the
-// input. A call that a signal interrupts is no failure: nothing more is held.
+// Reads behind the bytes that are held, and answers how many are held then; none at the end of the input. A call that a signal
+// interrupts is no failure: nothing more is held.
 fn read_more(rt: &impl Input, input: &mut [u8], held: usize) -> Result<Option<usize>, Failure> {
     let Some(room) = input.get_mut(held..) else {
         return Ok(None);
@@ -62,14 +62,15 @@ fn read_more(rt: &impl Input, input: &mut [u8], held: usize) -> Result<Option<us
 }
 
 // Applies the whole blocks that are held and writes what is told of them, and reads where there is none, to the end of the input. A
-// proved loop has to end, and nothing says that the input does: so turns are counted, up to a number that no run uses up.
+// proved loop has to end, and nothing says that the input does: so turns are counted, up to a number that no run uses up. None where
+// the end was not reached, since then the last records would be false: turns used up, or more held than the buffer has, which can't be.
 fn apply_all(
     rt: &(impl Input + Print),
     input: &mut [u8],
     directory: &mut [u64],
     book: &mut [u64],
     output: &mut [u8],
-) -> Result<Day, Failure> {
+) -> Result<Option<Day>, Failure> {
     let mut day = Day {
         held: 0,
         tally: Tally {
@@ -91,13 +92,16 @@ fn apply_all(
             tally: fed.tally,
         };
         if fed.at == 0 {
+            if day.held > input.len() {
+                return Ok(None);
+            }
             let Some(held) = read_more(rt, input, day.held)? else {
-                break;
+                return Ok(Some(day));
             };
             day.held = held;
         }
     }
-    Ok(day)
+    Ok(None)
 }
 
 // Writes all levels, a buffer at a time.
@@ -135,8 +139,10 @@ fn run(rt: &(impl Input + Print)) -> Result<(), Failure> {
     let mut book = [0u64; 4112];
     let mut input = [0u8; 131072];
     let mut output = [0u8; OUTPUT];
-    let day = apply_all(rt, &mut input, &mut directory, &mut book, &mut output)?;
-    close(rt, day, &book, &mut output)
+    match apply_all(rt, &mut input, &mut directory, &mut book, &mut output)? {
+        Some(day) => close(rt, day, &book, &mut output),
+        None => Ok(()),
+    }
 }
 
 fn main(rt: HostRuntime) {
