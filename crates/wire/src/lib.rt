@@ -1,5 +1,5 @@
 // Big-endian fields of 1, 2, 4, 6 and 8 bytes, each read where it stands. It knows nothing of messages.
-#![tactic(auto, unfolding(laws::specs::Field::field))]
+#![tactic(auto)]
 
 ghost use Rattle.std.specs.Prelude.{◌≡◌, ◌+◌, ◌≤◌, length};
 ghost use Rattle.laws.specs.Field.{field};
